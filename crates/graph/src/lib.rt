@@ -1,0 +1,3 @@
+// Links between positions: the first layer.
+pub mod network;
+pub mod sets;
