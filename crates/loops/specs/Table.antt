@@ -4,6 +4,7 @@ use mathlib.Core.List.{List, [], _∷_, _++_, append-assoc}
 use mathlib.Core.Path.{_≡_, refl, sym, ap, ap₂, _∙_}
 use lib.ListN.{length, getD, set, replicate, length-append, length-replicate, getD-replicate, List·getD-append, List·getD-eq-default}
 use lib.Seq.{set-at, getD-at, getD-append-add, append-snoc}
+use native.Mathlib.Nat.{le-antisymm}
 use native.Mathlib.Numerals.{add-one}
 use native.Mathlib.Omega.{arith}
 
@@ -77,3 +78,7 @@ filled-behind d k n f i h =
     zeros zero j = refl
     zeros (suc a) zero = refl
     zeros (suc a) (suc j) = zeros a j
+
+-- behind the last turn
+pub filled-all : {A : Type 0} (d : A) (k : ℕ) (f : ℕ → A) {l : List A} {i n : ℕ} → i ≤ n → n ≤ i → l ≡ filled d k i f → l ≡ filled d k n f
+filled-all d k f h g e = e ∙ ap (λ (x : ℕ). filled d k x f) (le-antisymm h g)

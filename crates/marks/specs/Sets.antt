@@ -322,3 +322,36 @@ below-few n j h = ap (λ (x : ℕ). has (x - 1) j) (one-shl n h) ∙ has-below n
     go : (t : Bool) → ltb j n ≡ t → (t && ltb j 64) ≡ t
     go true e = lt-ltb j 64 (omega (arith, ltb-true j n e))
     go false e = refl
+
+-- A loop that marks, in rising order, each number of which f says yes: before its first turn, and a turn.
+and-false : (t : Bool) → (t && false) ≡ false
+and-false true = refl
+and-false false = refl
+
+pub or-false : (t : Bool) → (t || false) ≡ t
+or-false true = refl
+or-false false = refl
+
+pub grown-none : (f : ℕ → Bool) (k : ℕ) → has 0 k ≡ (ltb k 0 && f k)
+grown-none f k = has-none k ∙ ap (λ (t : Bool). t && f k) (sym (le-ltb k 0 (omega arith)))
+
+pub grown-turn : (f : ℕ → Bool) (m r j k : ℕ) (b : Bool) → j < 64 → has m k ≡ (ltb k j && f k) → b ≡ f j → has r k ≡ (has m k || (b && (ltb k 64 && eqb k j))) → has r k ≡ (ltb k (j + 1) && f k)
+grown-turn f m r j k b h e g s = s ∙ go (eqb k j) refl
+  where
+    go : (t : Bool) → eqb k j ≡ t → (has m k || (b && (ltb k 64 && t))) ≡ (ltb k (j + 1) && f k)
+    go true p =
+        let q : k ≡ j = eqb-true k j p in
+        rw (e, le-ltb k j (omega arith), lt-ltb k 64 (omega arith), lt-ltb k (j + 1) (omega arith), g) (and-one (f j) ∙ sym (ap f q))
+      where
+        and-one : (t : Bool) → (t && true) ≡ t
+        and-one true = refl
+        and-one false = refl
+    go false p =
+        ap (λ (t : Bool). has m k || (b && t)) (and-false (ltb k 64)) ∙ ap (λ (t : Bool). has m k || t) (and-false b) ∙ or-false (has m k) ∙ e ∙ ap (λ (t : Bool). t && f k) (same-test (ltb k j) refl (eqb-false k j p))
+      where
+        same-test : (t : Bool) → ltb k j ≡ t → (k ≡ j → ⊥) → ltb k j ≡ ltb k (j + 1)
+        same-test true l n = l ∙ sym (lt-ltb k (j + 1) (omega (arith, ltb-true k j l)))
+        same-test false l n = l ∙ sym (le-ltb k (j + 1) (omega (arith, ltb-false k j l)))
+
+pub grown-all : (f : ℕ → Bool) (n j m : ℕ) → n ≤ 64 → m < 2 ^ 64 → j ≤ n → n ≤ j → ((k : ℕ) → has m k ≡ (ltb k j && f k)) → m ≡ marks n f
+grown-all f n j m h l a b e = marks-is n f m h l (λ k. e k ∙ ap (λ (x : ℕ). ltb k x && f k) (le-antisymm a b))
