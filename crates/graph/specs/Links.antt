@@ -4,12 +4,16 @@ use mathlib.Core.Bool.{Bool, true, false, not, _||_, _&&_}
 use mathlib.Core.List.{List}
 use Prim.Native.Nat.{ℕ, _+_, _-_, _*_, _/_, _%_, _≤_, _<_}
 use lib.ListN.{length, getD, replicate}
+use lib.Seq.{sets}
 use lib.Dec.{eqb, ltb, leb}
 use Rattle.loops.specs.Pick.{either}
 use Rattle.loops.specs.Table.{filled}
 use Rattle.marks.specs.Marks.{has, marks, anyOf, allOf, members}
 use Rattle.graph.specs.declared.network.NetworkGraph.{NetworkGraph}
 use Rattle.graph.specs.declared.network.Built.{Built}
+use Rattle.graph.specs.declared.network.NeighborRow.{NeighborRow}
+use Rattle.graph.specs.declared.network.NeighborList.{NeighborList}
+use Rattle.graph.specs.declared.network.LinkTest.{LinkTest}
 use Rattle.graph.specs.declared.network.Topology.{Topology}
 use Rattle.graph.specs.declared.network.Topology.the-variants.{FullMesh, Line, Ring, Grid, Tree}
 
@@ -67,3 +71,69 @@ aheadOf (Tree b) n i j = treeRule b i j
 -- both ways
 unfoldable pub linkOf : Topology → ℕ → ℕ → ℕ → Bool
 linkOf t n i j = aheadOf t n i j || aheadOf t n j i
+
+-- Refusal 3 of a grid: its rows divide the positions.
+abbrev pub divides : ℕ → ℕ → Bool
+divides rows n = not (eqb rows 0) && eqb (n % rows) 0
+
+unfoldable pub gridOf : ℕ → ℕ → Built
+gridOf n rows = either (isSize n) (either (divides rows n) (builtOf n (linkOf (Grid (n / rows)) n)) (refused 3)) (refused 2)
+
+-- 01's numbers of the topologies, as a frame gives them: 1 mesh, 2 line, 3 ring, each with argument 0; 4 grid, by its rows; 5 tree,
+-- by its branching. Refusal 3: any other number, or a wrong argument; refusal 2 comes first.
+abbrev pub plainOf : Topology → ℕ → ℕ → Built
+plainOf t n argument = either (eqb argument 0) (builtOf n (linkOf t n)) (refused 3)
+
+unfoldable pub topologyOf : ℕ → ℕ → ℕ → Built
+unfolding builtOf gridOf
+topologyOf topology n argument =
+    either (isSize n)
+    (either (eqb topology 1) (plainOf FullMesh n argument)
+    (either (eqb topology 2) (plainOf Line n argument)
+    (either (eqb topology 3) (plainOf Ring n argument)
+    (either (eqb topology 4) (gridOf n argument)
+    (either (eqb topology 5) (builtOf n (linkOf (Tree argument) n))
+    (refused 3))))))
+    (refused 2)
+
+-- Refusal 3 of rows: no mark at n or above.
+unfoldable pub inside : ℕ → ℕ → Bool
+inside n row = allOf 64 (λ j. not (has row j) || ltb j n)
+
+-- the graph that has these rows, one for each position
+unfoldable pub rowsOf : List ℕ → Built
+rowsOf rows =
+    let n = length rows in
+    either (isSize n)
+    (either (allOf n (λ i. inside n (getD rows i 0))) (accepted (record { n = n; adj = filled 0 64 n (λ i. getD rows i 0) })) (refused 3))
+    (refused 2)
+
+-- Refusals 2 and 8 of a call on one position of a graph, whose numbers may be any.
+unfoldable pub positionRefusal : ℕ → ℕ → ℕ
+positionRefusal n i = either (isSize n) (either (ltb i n) 0 8) 2
+
+-- the row of a position
+unfoldable pub rowOf : NetworkGraph → ℕ → NeighborRow
+rowOf g i =
+    let k = positionRefusal (g .n) i in
+    either (eqb k 0) (record { refusal = 0; marks = getD (g .adj) i 0 }) (record { refusal = k; marks = 0 })
+
+-- the neighbours of a position in rising order, how many there are, and zeros behind them
+unfoldable pub listOf : ℕ → ℕ → NeighborList
+listOf m n = record { refusal = 0; count = length (members m n); at = sets (replicate 64 0) 0 (members m n) }
+
+unfoldable pub neighborsOf : NetworkGraph → ℕ → NeighborList
+neighborsOf g i =
+    let k = positionRefusal (g .n) i in
+    either (eqb k 0) (listOf (getD (g .adj) i 0) 64) (record { refusal = k; count = 0; at = replicate 64 0 })
+
+-- Position i has a link to position j: both are positions of the graph, and i's row has j's mark.
+unfoldable pub linked : NetworkGraph → ℕ → ℕ → Bool
+linked g i j = (ltb i (g .n) && ltb j (g .n)) && has (getD (g .adj) i 0) j
+
+-- the refusal of a call on two positions, and the answer of a test where there is none
+unfoldable pub pairRefusal : ℕ → ℕ → ℕ → ℕ
+pairRefusal n i j = either (eqb (positionRefusal n i) 0) (positionRefusal n j) (positionRefusal n i)
+
+abbrev pub testOf : ℕ → Bool → LinkTest
+testOf k t = either (eqb k 0) (record { refusal = 0; holds = t }) (record { refusal = k; holds = false })

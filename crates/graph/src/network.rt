@@ -21,8 +21,33 @@ pub struct Built {
     pub graph: NetworkGraph,
 }
 
+// The row of a position: a mark for each position that hears it.
+pub struct NeighborRow {
+    pub refusal: u64,
+    pub marks: u64,
+}
+
+// The neighbours of a position in rising order, with zeros behind the first `count`.
+pub struct NeighborList {
+    pub refusal: u64,
+    pub count: usize,
+    pub at: [usize; 64],
+}
+
+// The answer of a test on two positions.
+pub struct LinkTest {
+    pub refusal: u64,
+    pub holds: bool,
+}
+
+// How many links a path has.
+pub struct PathLength {
+    pub refusal: u64,
+    pub links: usize,
+}
+
 // The five shapes, each with what its rule needs.
-enum Topology {
+pub enum Topology {
     FullMesh,
     Line,
     Ring,
