@@ -19,22 +19,22 @@ use Rattle.graph.specs.Links.{linked}
 use Rattle.graph.specs.Paths.{Path, here, onward, Shortest, Longest, spreadOnce, reached, farthest, diameterOf}
 
 -- a truth value is not both
-no-both : {A : Type 0} (t : Bool) → t ≡ true → t ≡ false → A
+pub no-both : {A : Type 0} (t : Bool) → t ≡ true → t ≡ false → A
 no-both t e f = absurd (let z : _≡_ {A = ℕ} 0 1 = cc in omega arith)
 
-or-cases : (a b : Bool) → (a || b) ≡ true → (a ≡ true) ⊎ (b ≡ true)
+pub or-cases : (a b : Bool) → (a || b) ≡ true → (a ≡ true) ⊎ (b ≡ true)
 or-cases true b e = inl refl
 or-cases false b e = inr e
 
-or-left : (a b : Bool) → a ≡ true → (a || b) ≡ true
+pub or-left : (a b : Bool) → a ≡ true → (a || b) ≡ true
 or-left a b e = rw e
 
-or-right : (a b : Bool) → b ≡ true → (a || b) ≡ true
+pub or-right : (a b : Bool) → b ≡ true → (a || b) ≡ true
 or-right true b e = refl
 or-right false b e = e
 
 module _ (g : NetworkGraph) where
-  linked-parts : (i j : ℕ) → linked g i j ≡ true → (i < g .n) × (j < g .n)
+  pub linked-parts : (i j : ℕ) → linked g i j ≡ true → (i < g .n) × (j < g .n)
   unfolding linked
   linked-parts i j e =
       let p = and-true (ltb i (g .n) && ltb j (g .n)) (has (lib.ListN.getD (g .adj) i 0) j) e in
@@ -88,7 +88,7 @@ module _ (g : NetworkGraph) where
           let r = ih (f .0) (b .0) in
           (suc (r .0), omega (arith, r .1), onward (r .2) (b .1))
 
-  from-start : (i k : ℕ) → i < g .n → has (reached g i k) i ≡ true
+  pub from-start : (i k : ℕ) → i < g .n → has (reached g i k) i ≡ true
   from-start i zero h = has-start i i ∙ true-and (ltb i (g .n)) (eqb i i) (lt-ltb i (g .n) h) (eq-eqb i i refl)
   from-start i (suc k) h = reached-more i k i (from-start i k h)
 
@@ -120,6 +120,7 @@ module _ (g : NetworkGraph) where
           go : Dec (l ≤ k) → suc k ≤ l
           go (yes h) = no-both (has (reached g i k) j) (path-reached p k h) f
           go (no h) = omega arith
+
       by : (l : ℕ) × (l ≤ suc k) × Path g i j l → Path g i j (suc k)
       by r = subst (λ (x : ℕ). Path g i j x) (le-antisymm (r .1) (least (r .0) (r .2))) (r .2)
 
@@ -129,6 +130,7 @@ module _ (g : NetworkGraph) where
     where
       split : (j : ℕ) → (has (reached g i (suc k)) j && not (has (reached g i k) j)) ≡ true → (has (reached g i (suc k)) j ≡ true) × (has (reached g i k) j ≡ false)
       split j e = let p = and-true (has (reached g i (suc k)) j) (not (has (reached g i k) j)) e in (p .0, borrow.Author.Tests.not-true (has (reached g i k) j) (p .1))
+
       agree : anyOf (g .n) (λ j. has (reached g i (suc k)) j && not (has (reached g i k) j)) ≡ false → (j : ℕ) → j < g .n → has (reached g i (suc k)) j ≡ has (reached g i k) j
       agree none j h = by (has (reached g i (suc k)) j) (has (reached g i k) j) refl refl
         where
@@ -137,6 +139,7 @@ module _ (g : NetworkGraph) where
           by true false p q = no-both (anyOf (g .n) (λ j. has (reached g i (suc k)) j && not (has (reached g i k) j))) (any-at (g .n) (λ j. has (reached g i (suc k)) j && not (has (reached g i k) j)) j h (rw (p, q))) none
           by false true p q = no-both (has (reached g i (suc k)) j) (reached-more i k j q) p
           by false false p q = refl
+
       go : (t : Bool) → anyOf (g .n) (λ j. has (reached g i (suc k)) j && not (has (reached g i k) j)) ≡ t → (j : ℕ) × (j < g .n) × (has (reached g i (suc k)) j ≡ true) × (has (reached g i k) j ≡ false)
       go true e =
           let f = any-found (g .n) (λ j. has (reached g i (suc k)) j && not (has (reached g i k) j)) e in
@@ -145,7 +148,7 @@ module _ (g : NetworkGraph) where
       go false e = absurd (ne (same (g .n) (reached g i (suc k)) (reached g i k) (reached-lt i (suc k)) (reached-lt i k) (agree e)))
 
   -- Once a step changes nothing, no later one does.
-  still : (i k : ℕ) → reached g i (suc k) ≡ reached g i k → reached g i (suc (suc k)) ≡ reached g i (suc k)
+  pub still : (i k : ℕ) → reached g i (suc k) ≡ reached g i k → reached g i (suc (suc k)) ≡ reached g i (suc k)
   unfolding reached
   still i k e = ap (spreadOnce g) e
 
@@ -185,6 +188,7 @@ module _ (g : NetworkGraph) where
           let p = shortest-first i j k s in
           let q : reached g i (suc k) ≡ reached g i k = subst (λ (x : ℕ). reached g i (suc x) ≡ reached g i x) (sym e) (stays i (path-start (s .path)) m) in
           no-both (has (reached g i (suc k)) j) (p .0) (ap (λ (w : ℕ). has w j) q ∙ p .1)
+
       go : Dec (suc k ≤ g .n) → suc k ≤ g .n
       go (yes l) = l
       go (no l) = at-end (k - g .n) (omega arith)
@@ -196,8 +200,10 @@ module _ (g : NetworkGraph) where
       back : (m : ℕ) → has (reached g i (g .n + m)) j ≡ true → has (reached g i (g .n)) j ≡ true
       back zero e = subst (λ (x : ℕ). has (reached g i x) j ≡ true) (add-zero (g .n)) e
       back (suc m) e = back m (ap (λ (w : ℕ). has w j) (sym (stays i (path-start p) m)) ∙ subst (λ (x : ℕ). has (reached g i x) j ≡ true) (add-suc (g .n) m) e)
+
       far : (m : ℕ) → l ≡ g .n + m → has (reached g i (g .n)) j ≡ true
       far m e = back m (subst (λ (x : ℕ). has (reached g i x) j ≡ true) e (path-reached p l (omega arith)))
+
       go : Dec (l ≤ g .n) → has (reached g i (g .n)) j ≡ true
       go (yes h) = path-reached p (g .n) h
       go (no h) = far (l - g .n) (omega arith)
@@ -213,6 +219,7 @@ module _ (g : NetworkGraph) where
       last e q =
           let p = shortest-first i j k s in
           no-both (has (reached g i (suc k)) j) (p .0) (ap (λ (w : ℕ). has w j) (subst (λ (x : ℕ). reached g i (suc x) ≡ reached g i x) (sym q) e) ∙ p .1)
+
       go : (t : Bool) → eqb (reached g i (suc m)) (reached g i m) ≡ t → (suc k ≤ m → suc k ≤ farthest g i m) → suc k ≤ either t (farthest g i m) (suc m)
       go true e ih = by (decLe (suc k) m)
         where
@@ -240,6 +247,7 @@ module _ (g : NetworkGraph) where
       bound : (i j k : ℕ) → Shortest g i j k → k ≤ highest (g .n) (λ i. farthest g i (g .n))
       bound i j k s =
           omega (arith, farthest-bound i j k s (g .n) (shortest-le i j k s), highest-bound (g .n) (λ i. farthest g i (g .n)) i (path-start (s .path)))
+
       met : (highest (g .n) (λ i. farthest g i (g .n)) ≡ 0) ⊎ ((i : ℕ) × (i < g .n) × (highest (g .n) (λ i. farthest g i (g .n)) ≡ farthest g i (g .n))) → (i : ℕ) × (j : ℕ) × Shortest g i j (highest (g .n) (λ i. farthest g i (g .n)))
       met (inl e) = (0, 0, subst (λ (x : ℕ). Shortest g 0 0 x) (sym e) (shortest-start 0 h))
       met (inr r) =

@@ -1,2 +1,4 @@
 pub mod Rules
 pub mod Distance
+pub mod Spreads
+pub mod Answers

@@ -85,7 +85,6 @@ abbrev pub plainOf : Topology → ℕ → ℕ → Built
 plainOf t n argument = either (eqb argument 0) (builtOf n (linkOf t n)) (refused 3)
 
 unfoldable pub topologyOf : ℕ → ℕ → ℕ → Built
-unfolding builtOf gridOf
 topologyOf topology n argument =
     either (isSize n)
     (either (eqb topology 1) (plainOf FullMesh n argument)

@@ -50,14 +50,11 @@ diameterOf g = upto (g .n) (λ i d. max d (farthest g i (g .n))) 0
 
 -- Refusal 2: the graph has no size that a graph may have.
 unfoldable pub lengthOf : NetworkGraph → PathLength
-unfolding diameterOf
 lengthOf g = either (isSize (g .n)) (record { refusal = 0; links = diameterOf g }) (record { refusal = 2; links = 0 })
 
 -- Some path leads from i to j: it is found within n links, if there is one.
 unfoldable pub reachesOf : NetworkGraph → ℕ → ℕ → LinkTest
-unfolding reached pairRefusal
 reachesOf g i j = testOf (pairRefusal (g .n) i j) (has (reached g i (g .n)) j)
 
 unfoldable pub hasLinkOf : NetworkGraph → ℕ → ℕ → LinkTest
-unfolding linked pairRefusal
 hasLinkOf g i j = testOf (pairRefusal (g .n) i j) (linked g i j)

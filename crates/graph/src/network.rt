@@ -2,11 +2,16 @@
 // Every call answers with 01's refusal number beside its value (0: none); a refused call's value is empty.
 ghost use mathlib.Core.Path.{_≡_};
 ghost use mathlib.Core.Bool.{_||_, _&&_, not};
-ghost use Prim.Native.Nat.{ℕ, _+_, _*_, _/_, _≤_, _<_};
-ghost use lib.ListN.{length};
+ghost use Prim.Native.Nat.{ℕ, _+_, _*_, _/_, _≤_, _<_, max};
+ghost use lib.ListN.{length, getD, set};
 ghost use lib.Dec.{eqb, ltb, leb};
-ghost use Rattle.marks.specs.Marks.{has, marks};
-ghost use Rattle.graph.specs.Links.{graphBy, builtOf, noGraph, aheadOf, linkOf, nextRule, ringRule, gridRule, treeRule, meshRule};
+ghost use Rattle.loops.specs.Pick.{either};
+ghost use Rattle.loops.specs.Table.{filled};
+ghost use Rattle.marks.specs.Marks.{has, marks, anyOf, allOf};
+ghost use Rattle.graph.specs.declared.network.Topology.the-variants.{FullMesh, Line, Ring, Tree};
+ghost use Rattle.graph.specs.Links.{graphBy, builtOf, noGraph, aheadOf, linkOf, ringRule, gridRule, treeRule, gridOf, topologyOf, plainOf, inside, rowsOf, positionRefusal, pairRefusal, rowOf, listOf, neighborsOf};
+ghost use Rattle.graph.specs.Paths.{Longest, reached, diameterOf, lengthOf, hasLinkOf, reachesOf};
+ghost use Rattle.graph.specs.Waves.{Stepped, Swept};
 use super::sets;
 
 // n positions; row i holds a mark for each position that hears i.
@@ -205,5 +210,404 @@ fn build(t: Topology, n: usize) -> Built
     Built {
         refusal: 0,
         graph: graph_by(t, n),
+    }
+}
+
+// Every mark of the row is below n.
+fn row_inside(row: u64, n: usize) -> bool
+    ensures { λ r. ⌜ r ≡ inside n row ⌝ }
+{
+    let stray = sets::difference(row, sets::first_marks(n));
+    if stray == 0 {
+        return true;
+    }
+    false
+}
+
+fn rows_inside(rows: &[u64]) -> bool
+    ensures { λ r. ⌜ r ≡ allOf (length (now (rows .entry))) (λ i. inside (length (now (rows .entry))) (getD (now (rows .entry)) i 0)) ⌝ }
+{
+    let n = rows.len();
+    let mut i: usize = 0;
+    while i < n {
+        if !row_inside(rows[i], n) {
+            return false;
+        }
+        i += 1;
+    }
+    true
+}
+
+fn copy_rows(rows: &[u64]) -> NetworkGraph
+    requires { ⌜ length (now rows) ≤ 64 ⌝ }
+    ensures { λ r. ⌜ r ≡ record { n = length (now (rows .entry)); adj = filled 0 64 (length (now (rows .entry))) (λ i. getD (now (rows .entry)) i 0) } ⌝ }
+{
+    let n = rows.len();
+    let mut adj = [0u64; 64];
+    let mut i: usize = 0;
+    while i < n {
+        adj[i] = rows[i];
+        i += 1;
+    }
+    NetworkGraph { n, adj }
+}
+
+fn plain(t: Topology, n: usize, argument: usize) -> Built
+    ensures { λ r. ⌜ r ≡ plainOf t n argument ⌝ }
+{
+    if argument != 0 {
+        return refused(3);
+    }
+    build(t, n)
+}
+
+// Refusals 2 and 8 of a call on position i of n.
+fn position_refusal(n: usize, i: usize) -> u64
+    ensures { λ r. ⌜ r ≡ positionRefusal n i ⌝ }
+{
+    if n == 0 {
+        return 2;
+    }
+    if n > 64 {
+        return 2;
+    }
+    if i >= n {
+        return 8;
+    }
+    0
+}
+
+fn pair_refusal(n: usize, i: usize, j: usize) -> u64
+    ensures { λ r. ⌜ r ≡ pairRefusal n i j ⌝ }
+{
+    let first = position_refusal(n, i);
+    if first != 0 {
+        return first;
+    }
+    position_refusal(n, j)
+}
+
+// The list with j behind its entries, if m has mark j.
+fn note_mark(l: NeighborList, m: u64, j: usize) -> NeighborList
+    requires { ⌜ l .count < 64 ⌝ }
+    ensures { λ r. ⌜ r ≡ either (has m j) (record { refusal = l .refusal; count = l .count + 1; at = set (l .at) (l .count) j }) l ⌝ }
+{
+    if !sets::is_marked(m, j) {
+        return l;
+    }
+    let count = l.count;
+    let mut at = l.at;
+    at[count] = j;
+    NeighborList {
+        refusal: l.refusal,
+        count: count + 1,
+        at,
+    }
+}
+
+fn list_marks(m: u64) -> NeighborList
+    ensures { λ r. ⌜ r ≡ listOf m 64 ⌝ }
+{
+    let mut l = NeighborList {
+        refusal: 0,
+        count: 0,
+        at: [0usize; 64],
+    };
+    let mut j: usize = 0;
+    while j < 64 {
+        l = note_mark(l, m, j);
+        j += 1;
+    }
+    l
+}
+
+// A wave that goes out from one position, a link a step: where it arrived last, where it has not been, and the last step at
+// which it arrived somewhere.
+struct Wave {
+    front: u64,
+    unseen: u64,
+    links: usize,
+}
+
+// Where one link leads from the positions of the front.
+fn spread(adj: &[u64; 64], front: u64) -> u64
+    ensures { λ r. ⌜ ((j : ℕ) → has r j ≡ anyOf 64 (λ i. has front i && has (getD (now (adj .entry)) i 0) j)) ⌝ }
+{
+    let mut left = front;
+    let mut out: u64 = 0;
+    while left != 0 {
+        let i = sets::lowest_mark(left);
+        out = sets::union(out, adj[i]);
+        left = sets::without_mark(left, i);
+    }
+    out
+}
+
+fn last_step(front: u64, links: usize, k: usize) -> usize
+    requires { ⌜ k < 64 ⌝ }
+    ensures { λ r. ⌜ r ≡ either (eqb front 0) links (k + 1) ⌝ }
+{
+    if front == 0 {
+        return links;
+    }
+    k + 1
+}
+
+// Step k + 1 of a wave.
+fn wave_step(adj: &[u64; 64], w: Wave, k: usize) -> Wave
+    requires { ⌜ k < 64 ⌝ }
+    ensures { λ r. ⌜ Stepped (now (adj .entry)) w k r ⌝ }
+{
+    let front = sets::intersection(spread(adj, w.front), w.unseen);
+    let unseen = sets::difference(w.unseen, front);
+    let links = last_step(front, w.links, k);
+    Wave {
+        front,
+        unseen,
+        links,
+    }
+}
+
+fn wave_from(adj: &[u64; 64], n: usize, start: usize) -> Wave
+    requires { ⌜ (n ≤ 64) × (start < n) ⌝ }
+    ensures { λ r. ⌜ Swept (record { n = n; adj = now (adj .entry) }) start n r ⌝ }
+{
+    let mut w = Wave {
+        front: sets::with_mark(0, start),
+        unseen: sets::without_mark(sets::first_marks(n), start),
+        links: 0,
+    };
+    let mut k: usize = 0;
+    while k < n {
+        if w.front == 0 {
+            return w;
+        }
+        w = wave_step(adj, w, k);
+        k += 1;
+    }
+    w
+}
+
+fn larger(a: usize, b: usize) -> usize
+    ensures { λ r. ⌜ r ≡ max a b ⌝ }
+{
+    if a < b {
+        return b;
+    }
+    a
+}
+
+fn longest_path(adj: &[u64; 64], n: usize) -> usize
+    requires { ⌜ n ≤ 64 ⌝ }
+    ensures { λ r. ⌜ r ≡ diameterOf (record { n = n; adj = now (adj .entry) }) ⌝ }
+{
+    let mut d: usize = 0;
+    let mut i: usize = 0;
+    while i < n {
+        let w = wave_from(adj, n, i);
+        d = larger(d, w.links);
+        i += 1;
+    }
+    d
+}
+
+// Whether a path leads from i to j.
+fn joined(adj: &[u64; 64], n: usize, i: usize, j: usize) -> bool
+    requires { ⌜ (n ≤ 64) × (i < n) × (j < n) ⌝ }
+    ensures { λ r. ⌜ r ≡ has (reached (record { n = n; adj = now (adj .entry) }) i n) j ⌝ }
+{
+    let w = wave_from(adj, n, i);
+    let unseen = w.unseen;
+    if sets::is_marked(unseen, j) {
+        return false;
+    }
+    true
+}
+
+impl NetworkGraph {
+    // Each hears each other.
+    pub fn full_mesh(n: usize) -> Built
+        ensures { λ r. ⌜ r ≡ builtOf n (linkOf FullMesh n) ⌝ }
+    {
+        build(Topology::FullMesh, n)
+    }
+
+    // Each hears the one before and the one behind it.
+    pub fn line(n: usize) -> Built
+        ensures { λ r. ⌜ r ≡ builtOf n (linkOf Line n) ⌝ }
+    {
+        build(Topology::Line, n)
+    }
+
+    // A line with its ends joined, where there are more than two.
+    pub fn ring(n: usize) -> Built
+        ensures { λ r. ⌜ r ≡ builtOf n (linkOf Ring n) ⌝ }
+    {
+        build(Topology::Ring, n)
+    }
+
+    // n positions in so many rows, which must divide n.
+    pub fn grid(n: usize, rows: usize) -> Built
+        ensures { λ r. ⌜ r ≡ gridOf n rows ⌝ }
+    {
+        if n == 0 {
+            return refused(2);
+        }
+        if n > 64 {
+            return refused(2);
+        }
+        if rows == 0 {
+            return refused(3);
+        }
+        if n % rows != 0 {
+            return refused(3);
+        }
+        build(Topology::Grid(n / rows), n)
+    }
+
+    // Each has up to so many children; any number will do.
+    pub fn tree(n: usize, branching_factor: usize) -> Built
+        ensures { λ r. ⌜ r ≡ builtOf n (linkOf (Tree «branching_factor») n) ⌝ }
+    {
+        build(Topology::Tree(branching_factor), n)
+    }
+
+    // The topology with 01's number, for n positions.
+    pub fn from_topology(topology: u64, n: usize, argument: usize) -> Built
+        ensures { λ r. ⌜ r ≡ topologyOf topology n argument ⌝ }
+    {
+        if n == 0 {
+            return refused(2);
+        }
+        if n > 64 {
+            return refused(2);
+        }
+        match topology {
+            1 => plain(Topology::FullMesh, n, argument),
+            2 => plain(Topology::Line, n, argument),
+            3 => plain(Topology::Ring, n, argument),
+            4 => NetworkGraph::grid(n, argument),
+            5 => NetworkGraph::tree(n, argument),
+            _ => refused(3),
+        }
+    }
+
+    // The graph of these rows, one for each position.
+    pub fn from_rows(rows: &[u64]) -> Built
+        ensures { λ r. ⌜ r ≡ rowsOf (now (rows .entry)) ⌝ }
+    {
+        let n = rows.len();
+        if n == 0 {
+            return refused(2);
+        }
+        if n > 64 {
+            return refused(2);
+        }
+        if !rows_inside(rows) {
+            return refused(3);
+        }
+        Built {
+            refusal: 0,
+            graph: copy_rows(rows),
+        }
+    }
+
+    pub fn num_nodes(self) -> usize
+        ensures { λ r. ⌜ r ≡ self .n ⌝ }
+    {
+        self.n
+    }
+
+    // Who hears i, as a set of marks.
+    pub fn row(self, i: usize) -> NeighborRow
+        ensures { λ r. ⌜ r ≡ rowOf self i ⌝ }
+    {
+        let refusal = position_refusal(self.n, i);
+        if refusal != 0 {
+            return NeighborRow { refusal, marks: 0 };
+        }
+        let adj = self.adj;
+        NeighborRow {
+            refusal: 0,
+            marks: adj[i],
+        }
+    }
+
+    // Who hears i, in rising order.
+    pub fn neighbors(self, i: usize) -> NeighborList
+        ensures { λ r. ⌜ r ≡ neighborsOf self i ⌝ }
+    {
+        let refusal = position_refusal(self.n, i);
+        if refusal != 0 {
+            return NeighborList {
+                refusal,
+                count: 0,
+                at: [0usize; 64],
+            };
+        }
+        let adj = self.adj;
+        list_marks(adj[i])
+    }
+
+    // Whether j hears i.
+    pub fn has_link(self, i: usize, j: usize) -> LinkTest
+        ensures { λ r. ⌜ r ≡ hasLinkOf self i j ⌝ }
+    {
+        let refusal = pair_refusal(self.n, i, j);
+        if refusal != 0 {
+            return LinkTest {
+                refusal,
+                holds: false,
+            };
+        }
+        let adj = self.adj;
+        LinkTest {
+            refusal: 0,
+            holds: sets::is_marked(adj[i], j),
+        }
+    }
+
+    // Whether what i sends can come to j, by however many links.
+    pub fn reaches(self, i: usize, j: usize) -> LinkTest
+        ensures { λ r. ⌜ r ≡ reachesOf self i j ⌝ }
+    {
+        let n = self.n;
+        let refusal = pair_refusal(n, i, j);
+        if refusal != 0 {
+            return LinkTest {
+                refusal,
+                holds: false,
+            };
+        }
+        let adj = self.adj;
+        LinkTest {
+            refusal: 0,
+            holds: joined(&adj, n, i, j),
+        }
+    }
+
+    // The longest shortest path over all ordered pairs that a path joins.
+    pub fn diameter(self) -> PathLength
+        ensures { λ r. ⌜ r ≡ lengthOf self ⌝ }
+        ensures { λ r. ⌜ (r .refusal ≡ 0 → Longest self (r .links)) ⌝ }
+    {
+        let n = self.n;
+        if n == 0 {
+            return PathLength {
+                refusal: 2,
+                links: 0,
+            };
+        }
+        if n > 64 {
+            return PathLength {
+                refusal: 2,
+                links: 0,
+            };
+        }
+        let adj = self.adj;
+        PathLength {
+            refusal: 0,
+            links: longest_path(&adj, n),
+        }
     }
 }

@@ -24,6 +24,15 @@ pub fn with_mark(m: u64, i: usize) -> u64
     m | (1 << i)
 }
 
+pub fn without_mark(m: u64, i: usize) -> u64
+    ensures { λ r. ⌜ ((j : ℕ) → has r j ≡ (has m j && not (eqb j i))) ⌝ }
+{
+    if i >= 64 {
+        return m;
+    }
+    m ^ (m & (1 << i))
+}
+
 pub fn union(a: u64, b: u64) -> u64
     ensures { λ r. ⌜ ((j : ℕ) → has r j ≡ (has a j || has b j)) ⌝ }
 {

@@ -17,6 +17,7 @@ highest-bound (suc n) f i h = go (decLt i n) (λ l. highest-bound n f i l)
   where
     last : i ≡ n → f i ≤ max (highest n f) (f n)
     last e = let p : f i ≡ f n = ap f e in omega arith
+
     go : Dec (i < n) → (i < n → f i ≤ highest n f) → f i ≤ max (highest n f) (f n)
     go (yes l) ih = let b = ih l in omega arith
     go (no l) ih = last (is l)

@@ -13,8 +13,9 @@ use borrow.Author.Tests.{eq-eqb, ne-eqb, eqb-true, eqb-false, ltb-true, ltb-fals
 use lib.ListN.{getD, length, length-append}
 use Rattle.loops.specs.Pick.{either}
 use Rattle.marks.specs.Marks.{has, countOf, marks, anyOf, allOf, members, Lowest}
-use lib.Bits.{bitOr}
-use Rattle.marks.specs.Laws.{has-half, has-low, has-none, has-out, has-with, one-shl, same}
+use lib.Bits.{bitOr, bitAnd, bitXor}
+use native.Mathlib.Numerals.{add-one}
+use Rattle.marks.specs.Laws.{has-half, has-low, has-minus, has-none, has-one, has-out, has-with, one-shl, same}
 
 -- Two answers are equal if each follows from the other.
 pub iff : (a b : Bool) → (a ≡ true → b ≡ true) → (b ≡ true → a ≡ true) → a ≡ b
@@ -355,3 +356,43 @@ grown-turn f m r j k b h e g s = s ∙ go (eqb k j) refl
 
 pub grown-all : (f : ℕ → Bool) (n j m : ℕ) → n ≤ 64 → m < 2 ^ 64 → j ≤ n → n ≤ j → ((k : ℕ) → has m k ≡ (ltb k j && f k)) → m ≡ marks n f
 grown-all f n j m h l a b e = marks-is n f m h l (λ k. e k ∙ ap (λ (x : ℕ). ltb k x && f k) (le-antisymm a b))
+
+-- One mark less.
+pub without-far : (m i j : ℕ) → m < 2 ^ 64 → 64 ≤ i → has m j ≡ (has m j && not (eqb j i))
+without-far m i j h l = go (eqb j i) refl
+  where
+    go : (t : Bool) → eqb j i ≡ t → has m j ≡ (has m j && not t)
+    go true e = has-out 64 m j h (omega (arith, eqb-true j i e)) ∙ sym (and-false (has m j))
+    go false e = sym (and-one (has m j))
+      where
+        and-one : (t : Bool) → (t && true) ≡ t
+        and-one true = refl
+        and-one false = refl
+
+pub without-near : (m i j : ℕ) → i < 64 → has (bitXor m (bitAnd m (1 * 2 ^ i % 2 ^ 64))) j ≡ (has m j && not (eqb j i))
+without-near m i j h = has-minus m (1 * 2 ^ i % 2 ^ 64) j ∙ ap (λ (t : Bool). has m j && not t) (ap (λ (x : ℕ). has x j) (one-shl i h) ∙ has-one i j)
+
+-- A loop that tests each number below n in rising order, and leaves at the first no.
+module _ (f : ℕ → Bool) where
+  pub all-none : allOf 0 f ≡ true
+  unfolding allOf
+  all-none = refl
+
+  pub all-more : (i : ℕ) → allOf i f ≡ true → f i ≡ true → allOf (i + 1) f ≡ true
+  unfolding allOf
+  all-more i e g = rw (add-one i, e, g)
+
+  pub all-left : (i n : ℕ) → i < n → f i ≡ false → allOf n f ≡ false
+  all-left i n h e = go (allOf n f) refl
+    where
+      go : (t : Bool) → allOf n f ≡ t → t ≡ false
+      go true p = sym (all-at n f p i h) ∙ e
+      go false p = refl
+
+  pub all-done : (i n : ℕ) → i ≤ n → n ≤ i → allOf i f ≡ true → allOf n f ≡ true
+  all-done i n h g e = ap (λ (x : ℕ). allOf x f) (sym (le-antisymm h g)) ∙ e
+
+-- one member more
+pub members-more : (m j : ℕ) → members m (j + 1) ≡ members m j ++ either (has m j) (j ∷ []) []
+unfolding members
+members-more m j = rw (add-one j)
