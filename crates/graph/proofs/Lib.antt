@@ -2,3 +2,4 @@ pub mod Rules
 pub mod Distance
 pub mod Spreads
 pub mod Answers
+pub mod Entries

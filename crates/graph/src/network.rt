@@ -36,7 +36,7 @@ pub struct NeighborRow {
 pub struct NeighborList {
     pub refusal: u64,
     pub count: usize,
-    pub at: [usize; 64],
+    pub at: [u64; 64],
 }
 
 // The answer of a test on two positions.
@@ -297,7 +297,7 @@ fn note_mark(l: NeighborList, m: u64, j: usize) -> NeighborList
     }
     let count = l.count;
     let mut at = l.at;
-    at[count] = j;
+    at[count] = j as u64;
     NeighborList {
         refusal: l.refusal,
         count: count + 1,
@@ -311,7 +311,7 @@ fn list_marks(m: u64) -> NeighborList
     let mut l = NeighborList {
         refusal: 0,
         count: 0,
-        at: [0usize; 64],
+        at: [0u64; 64],
     };
     let mut j: usize = 0;
     while j < 64 {
@@ -542,7 +542,7 @@ impl NetworkGraph {
             return NeighborList {
                 refusal,
                 count: 0,
-                at: [0usize; 64],
+                at: [0u64; 64],
             };
         }
         let adj = self.adj;

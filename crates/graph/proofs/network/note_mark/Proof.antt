@@ -24,8 +24,8 @@ array-write-at : tie.Need-array-write-at
 array-write-at c = search needs
 
 -- src/network.rt:303:16
-add-t8 : tie.Need-add-t8
-add-t8 c = search needs
+add-t9 : tie.Need-add-t9
+add-t9 c = search needs
 
 -- src/network.rt:291:1
 returns-2 : tie.Need-returns-2
@@ -33,4 +33,4 @@ returns-2 c = rw (sym (c .before .before .is-marked .ensures) ∙ not-false _ (c
 
 pub note-mark-spec : {M : Type 1} → statement M
 note-mark-spec =
-    tie.close (tie.spec is-marked-requires returns mul-at array-write-at add-t8 returns-2)
+    tie.close (tie.spec is-marked-requires returns mul-at array-write-at add-t9 returns-2)
