@@ -16,7 +16,10 @@ fn main() {
     for part in ["graph", "packets"] {
         let feature = format!("CARGO_FEATURE_{}", part.to_uppercase());
         if env::var_os(feature).is_some() {
-            println!("cargo:rerun-if-changed={}", folder.join(format!("lib{part}.a")).display());
+            println!(
+                "cargo:rerun-if-changed={}",
+                folder.join(format!("lib{part}.a")).display()
+            );
             println!("cargo:rustc-link-lib=static={part}");
         }
     }

@@ -29,7 +29,7 @@ pub fn random_rows(r: &mut Prng) -> Vec<u64> {
     random_rows_of(r, n)
 }
 
-fn random_rows_of(r: &mut Prng, n: usize) -> Vec<u64> {
+pub fn random_rows_of(r: &mut Prng, n: usize) -> Vec<u64> {
     let mut rows = vec![0u64; n];
     // An order of the positions, so that no shape leans on their numbers.
     let mut order: Vec<usize> = (0..n).collect();
@@ -60,7 +60,11 @@ fn random_rows_of(r: &mut Prng, n: usize) -> Vec<u64> {
                 if r.chance(1, 16) {
                     continue;
                 }
-                let above = order[if r.chance(1, 2) { r.index(k) } else { k - 1 - r.index(near.min(k)) }];
+                let above = order[if r.chance(1, 2) {
+                    r.index(k)
+                } else {
+                    k - 1 - r.index(near.min(k))
+                }];
                 let below = order[k];
                 let down = way == 0 || way == 2 || (way == 3 && r.chance(1, 2));
                 if down || way == 3 {
@@ -159,7 +163,9 @@ pub fn sample() {
     let mut r = Prng::of(0, "sample graph");
     println!("# The Rust: {}", ctsim::SOURCE);
     println!("# n row0 .. row(n-1) | diameter | i count neighbours of i, rising");
-    let sizes = [1, 1, 1, 2, 2, 2, 3, 3, 4, 5, 6, 7, 8, 12, 16, 31, 32, 33, 48, 60, 62, 63, 64, 64, 64, 64];
+    let sizes = [
+        1, 1, 1, 2, 2, 2, 3, 3, 4, 5, 6, 7, 8, 12, 16, 31, 32, 33, 48, 60, 62, 63, 64, 64, 64, 64,
+    ];
     for k in 0..64 {
         let n = match sizes.get(k) {
             Some(n) => *n,
@@ -314,7 +320,13 @@ mod comparison {
         let n = rows.len();
         let g = graph_of_rows(rows);
         let at = size(rows);
-        t.same("diameter", at, || shown(rows), &diameter(rows), &(0, g.diameter() as u64));
+        t.same(
+            "diameter",
+            at,
+            || shown(rows),
+            &diameter(rows),
+            &(0, g.diameter() as u64),
+        );
         let mut reach: Vec<Option<Vec<bool>>> = vec![None; n];
         for i in 0..n {
             let near: Vec<u64> = g.neighbors(i).iter().map(|j| *j as u64).collect();
@@ -396,7 +408,15 @@ mod comparison {
     fn builders(t: &mut Tally, r: &mut Prng) {
         let mut branchings: Vec<u64> = (0..=70).collect();
         branchings.extend([127, 128, 255, 256, 4096]);
-        branchings.extend([1 << 31, 1 << 32, 1 << 63, (1 << 63) + 1, u64::MAX - 63, u64::MAX - 1, u64::MAX]);
+        branchings.extend([
+            1 << 31,
+            1 << 32,
+            1 << 63,
+            (1 << 63) + 1,
+            u64::MAX - 63,
+            u64::MAX - 1,
+            u64::MAX,
+        ]);
         // i × b + j wraps to a small number if it is taken modulo 2^64: 2 × (2^63 + 1) + 1 = 3.
         for k in 2..64u64 {
             branchings.push((u64::MAX / k).wrapping_add(1));
@@ -410,19 +430,62 @@ mod comparison {
                 let g = built(topology, n as usize, argument);
                 let rows = rows_of_graph(&g);
                 let input = || format!("topology {topology} n {n} argument {argument}");
-                t.same("build", n as usize, input, &build(topology, n, argument, 64), &(0, lent(&rows)));
-                t.same("build", n as usize, input, &build(topology, n, argument, LENT), &(0, lent(&rows)));
-                t.same("diameter of built", n as usize, input, &diameter(&rows), &(0, g.diameter() as u64));
+                t.same(
+                    "build",
+                    n as usize,
+                    input,
+                    &build(topology, n, argument, 64),
+                    &(0, lent(&rows)),
+                );
+                t.same(
+                    "build",
+                    n as usize,
+                    input,
+                    &build(topology, n, argument, LENT),
+                    &(0, lent(&rows)),
+                );
+                t.same(
+                    "diameter of built",
+                    n as usize,
+                    input,
+                    &diameter(&rows),
+                    &(0, g.diameter() as u64),
+                );
                 let short = r.index(64);
                 let input = || format!("topology {topology} n {n} argument {argument} rows_len {short}");
-                t.same("build, short list", n as usize, input, &build(topology, n, argument, short), &(10, vec![WAS; LENT]));
+                t.same(
+                    "build, short list",
+                    n as usize,
+                    input,
+                    &build(topology, n, argument, short),
+                    &(10, vec![WAS; LENT]),
+                );
             }
         }
     }
 
     fn refusals(t: &mut Tally, r: &mut Prng) {
         let untouched = vec![WAS; LENT];
-        let odd = [0, 1, 2, 3, 4, 5, 6, 7, 8, 63, 64, 65, 255, 256, 1 << 32, (1 << 32) + 1, 1 << 63, u64::MAX];
+        let odd = [
+            0,
+            1,
+            2,
+            3,
+            4,
+            5,
+            6,
+            7,
+            8,
+            63,
+            64,
+            65,
+            255,
+            256,
+            1 << 32,
+            (1 << 32) + 1,
+            1 << 63,
+            u64::MAX,
+        ];
         for topology in odd {
             for n in (0..=66).chain([127, 128, 256, 257, 1 << 32, (1 << 32) + 1, u64::MAX - 1, u64::MAX]) {
                 for argument in odd.iter().copied().chain([r.next(), 9, 16, 21, 32]) {
@@ -441,7 +504,13 @@ mod comparison {
                     };
                     for told in [64, LENT, 63, 0] {
                         let input = || format!("topology {topology} n {n} argument {argument} rows_len {told}");
-                        t.same("build refused", 0, input, &build(topology, n, argument, told), &(refusal, untouched.clone()));
+                        t.same(
+                            "build refused",
+                            0,
+                            input,
+                            &build(topology, n, argument, told),
+                            &(refusal, untouched.clone()),
+                        );
                     }
                 }
             }
@@ -450,7 +519,13 @@ mod comparison {
         let all_refused = |t: &mut Tally, rows: &[u64], i: u64, j: u64, told: usize, refusal: u64| {
             let input = || format!("{} i {i} j {j} out_len {told}", shown(rows));
             let at = size(rows);
-            t.same("neighbours refused", at, input, &neighbors(rows, i, told), &(refusal, untouched.clone(), WAS));
+            t.same(
+                "neighbours refused",
+                at,
+                input,
+                &neighbors(rows, i, told),
+                &(refusal, untouched.clone(), WAS),
+            );
             if refusal < 8 {
                 t.same("diameter refused", at, input, &diameter(rows), &(refusal, WAS));
             }
@@ -482,8 +557,20 @@ mod comparison {
                         let other = r.index(n) as u64;
                         all_refused(t, &rows, i, other, told, 8);
                         let input = || format!("{} i {other} j {i}", shown(&rows));
-                        t.same("has_link refused", size(&rows), input, &has_link(&rows, other, i), &(8, WAS));
-                        t.same("reaches refused", size(&rows), input, &reaches(&rows, other, i), &(8, WAS));
+                        t.same(
+                            "has_link refused",
+                            size(&rows),
+                            input,
+                            &has_link(&rows, other, i),
+                            &(8, WAS),
+                        );
+                        t.same(
+                            "reaches refused",
+                            size(&rows),
+                            input,
+                            &reaches(&rows, other, i),
+                            &(8, WAS),
+                        );
                     }
                 }
                 if told < 64 {

@@ -61,6 +61,7 @@ fn main() {
     if let Some(part) = sample {
         match part.as_str() {
             "graph" => graph::sample(),
+            "packets" => packets::sample(),
             _ => usage(&format!("no sample of {part}")),
         }
         return;

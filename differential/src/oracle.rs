@@ -174,11 +174,7 @@ impl Capture {
         self.term_done = false;
     }
 
-    fn run(
-        &self,
-        slots: u64,
-        rng: &mut ChaCha8Rng,
-    ) -> (u64, bool, Vec<Node>, MetricsCollector, u64) {
+    fn run(&self, slots: u64, rng: &mut ChaCha8Rng) -> (u64, bool, Vec<Node>, MetricsCollector, u64) {
         let mut nodes = self.nodes.clone();
         let mut metrics = self.metrics.clone();
         let mut next_row = self.next_row;
@@ -233,6 +229,13 @@ impl Capture {
             }
         }
         Ok(Ran { end, goal, moments })
+    }
+
+    /// Where the cursor would stand after a round; room and generator are not moved.
+    pub fn cursor_after(&self, rng: &ChaCha8Rng) -> Result<u64, MissingWord> {
+        let mut whole = rng.clone();
+        caught(|| self.run(self.round_slots, &mut whole))?;
+        Ok(whole.cursor())
     }
 
     pub fn outcome(&self) -> ProposalOutcome {

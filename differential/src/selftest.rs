@@ -120,7 +120,11 @@ fn links(c: &mut Checks, seed: u64) {
         }
     }
     c.is("G1: one way", graph_of_rows(&[2, 4, 0]).diameter(), 2);
-    c.is("G2: tree 1 is a line", rows_of_graph(&NetworkGraph::tree(9, 1)), rows_of_graph(&NetworkGraph::line(9)));
+    c.is(
+        "G2: tree 1 is a line",
+        rows_of_graph(&NetworkGraph::tree(9, 1)),
+        rows_of_graph(&NetworkGraph::line(9)),
+    );
 }
 
 fn merges(c: &mut Checks) {
@@ -197,35 +201,68 @@ fn captures(c: &mut Checks) {
     c.is("ALPHA", room.bytes, 172);
     c.is("progress", room.nodes[1].progress_count, 1);
     c.is("row of slot 0", room.metrics.snapshots.len(), 1);
-    let states: Vec<Vec<NodeState>> =
-        ran.moments.iter().map(|m| m.iter().map(|n| n.state).collect()).collect();
+    let states: Vec<Vec<NodeState>> = ran
+        .moments
+        .iter()
+        .map(|m| m.iter().map(|n| n.state).collect())
+        .collect();
     use NodeState::{Flood, Listen, Sleep};
     c.is(
         "D6: states slot by slot",
         states,
-        vec![vec![Flood, Listen], vec![Listen, Flood], vec![Flood, Listen], vec![Flood, Listen]],
+        vec![
+            vec![Flood, Listen],
+            vec![Listen, Flood],
+            vec![Flood, Listen],
+            vec![Flood, Listen],
+        ],
     );
 
     let mut room = open(NetworkGraph::line(2), 100, 2, FOREVER);
     room.propose(0);
     let ran = room.round(&mut none()).unwrap();
-    c.is("D2: first", (ran.end, ran.goal, room.nodes[0].progress_count), (2, false, 0));
+    c.is(
+        "D2: first",
+        (ran.end, ran.goal, room.nodes[0].progress_count),
+        (2, false, 0),
+    );
     c.is("D2: outcome", room.outcome(), ProposalOutcome::Committed);
     let ran = room.round(&mut none()).unwrap();
-    c.is("D2: second", (ran.end, ran.goal, room.nodes[0].progress_count), (3, true, 1));
+    c.is(
+        "D2: second",
+        (ran.end, ran.goal, room.nodes[0].progress_count),
+        (3, true, 1),
+    );
     let ran = room.round(&mut none()).unwrap();
-    c.is("D2: third", (ran.end, ran.goal, room.nodes[0].progress_count), (4, true, 1));
+    c.is(
+        "D2: third",
+        (ran.end, ran.goal, room.nodes[0].progress_count),
+        (4, true, 1),
+    );
 
     let mut room = open(graph_of_rows(&[0, 1]), 1, 3, FOREVER);
     room.propose(0);
     let mut g = ChaCha8Rng::of_words(&[F, 0, F], 0);
     room.round(&mut g).unwrap();
-    c.is("C5", (room.metrics.rx_attempts, room.metrics.rx_success, room.bytes, g.cursor()), (1, 1, 85, 3));
+    c.is(
+        "C5",
+        (
+            room.metrics.rx_attempts,
+            room.metrics.rx_success,
+            room.bytes,
+            g.cursor(),
+        ),
+        (1, 1, 85, 3),
+    );
     let mut room = open(graph_of_rows(&[0, 1]), 1, 3, FOREVER);
     room.propose(0);
     let mut g = ChaCha8Rng::of_words(&[F, 0], 0);
     c.is("C5 with a word less", room.round(&mut g).is_err(), true);
-    c.is("and nothing moved", (room.slot, g.cursor(), counts(&room.nodes)), (0, 0, (0, 0, 0)));
+    c.is(
+        "and nothing moved",
+        (room.slot, g.cursor(), counts(&room.nodes)),
+        (0, 0, (0, 0, 0)),
+    );
 
     let mut room = open(graph_of_rows(&[2, 0]), 100, 1, FOREVER);
     room.propose(0);
@@ -235,12 +272,24 @@ fn captures(c: &mut Checks) {
     let mut room = open(NetworkGraph::line(1), 100, 50, 1);
     room.propose(0);
     let ran = room.round(&mut none()).unwrap();
-    c.is("m: room of 1, B4", (ran.end, ran.goal, room.metrics.snapshots.len()), (1, true, 1));
+    c.is(
+        "m: room of 1, B4",
+        (ran.end, ran.goal, room.metrics.snapshots.len()),
+        (1, true, 1),
+    );
     let mut room = open(NetworkGraph::line(2), 100, 0, 1);
     room.propose(0);
     let ran = room.round(&mut none()).unwrap();
-    c.is("m: round slots 0", (ran.end, ran.goal, counts(&room.nodes)), (0, false, (0, 0, 0)));
-    c.is("D13: outcome of nothing", open(NetworkGraph::line(2), 1, 1, 1).outcome(), ProposalOutcome::Aborted);
+    c.is(
+        "m: round slots 0",
+        (ran.end, ran.goal, counts(&room.nodes)),
+        (0, false, (0, 0, 0)),
+    );
+    c.is(
+        "D13: outcome of nothing",
+        open(NetworkGraph::line(2), 1, 1, 1).outcome(),
+        ProposalOutcome::Aborted,
+    );
 
     // D7: a sleeper alternates, seen only with packets given by hand.
     let mut room = open(graph_of_rows(&[2, 0, 0]), 100, 3, FOREVER);
@@ -262,11 +311,23 @@ fn pipelines(c: &mut Checks) {
     let mut r = open(NetworkGraph::full_mesh(2), 0, 0.0, 0.0, 1, None, &[]);
     r.run().unwrap();
     let m = &r.core.metrics;
-    c.is("m: mesh of 2, T 0", (r.core.current_slot, counts(&r.core.nodes)), (2, (1, 2, 1)));
-    c.is("m: covered, stopped", (m.flood_nodes_covered, r.stopped, r.rounds), (2, true, 1));
+    c.is(
+        "m: mesh of 2, T 0",
+        (r.core.current_slot, counts(&r.core.nodes)),
+        (2, (1, 2, 1)),
+    );
+    c.is(
+        "m: covered, stopped",
+        (m.flood_nodes_covered, r.stopped, r.rounds),
+        (2, true, 1),
+    );
     c.is("A7: bytes", r.bytes, 352);
     let p = deserialize_packet(&r.core.nodes[0].payload).unwrap();
-    c.is("E2: T 0", (p.transaction_id, p.transaction_data.len(), p.nack_tx_id), (0, 0, 0));
+    c.is(
+        "E2: T 0",
+        (p.transaction_id, p.transaction_data.len(), p.nack_tx_id),
+        (0, 0, 0),
+    );
 
     let mut r = open(NetworkGraph::full_mesh(2), 0, 0.0, 0.0, 2, Some(1), &[]);
     r.run().unwrap();
@@ -275,13 +336,21 @@ fn pipelines(c: &mut Checks) {
     let mut r = open(NetworkGraph::line(3), 1, 0.0, 0.0, 1, Some(1), &[F; 8]);
     r.round().unwrap();
     let states: Vec<NodeState> = r.core.nodes.iter().map(|n| n.state).collect();
-    c.is("line of 3, round slots 1", states, vec![NodeState::Sleep, NodeState::Flood, NodeState::Listen]);
+    c.is(
+        "line of 3, round slots 1",
+        states,
+        vec![NodeState::Sleep, NodeState::Flood, NodeState::Listen],
+    );
     let pending: Vec<usize> = r.door.states().iter().map(|s| s.pending.len()).collect();
     c.is("position 1 takes no part", pending, vec![1, 0, 0]);
 
     let mut r = open(NetworkGraph::line(2), 1, 0.5, 0.0, 1, None, &[0, F]);
     r.run().unwrap();
-    c.is("E1: logs", (log(&r, 0), log(&r, 1)), (vec![(0, Aborted)], vec![(0, Aborted)]));
+    c.is(
+        "E1: logs",
+        (log(&r, 0), log(&r, 1)),
+        (vec![(0, Aborted)], vec![(0, Aborted)]),
+    );
     c.is("E1: rounds and words", (r.rounds, r.core.rng.cursor()), (1, 2));
     let mut r = open(NetworkGraph::line(2), 1, 0.5, 0.0, 1, None, &[0]);
     c.is("E1: one word", r.run().is_err(), true);
@@ -297,15 +366,28 @@ fn pipelines(c: &mut Checks) {
 
     let mut r = open(NetworkGraph::line(2), 1, 0.0, 0.5, 1, None, &[F, F, 0, 0, F]);
     r.run().unwrap();
-    c.is("E6: mixed logs", (log(&r, 0), log(&r, 1)), (vec![(0, Aborted)], vec![(0, Committed)]));
+    c.is(
+        "E6: mixed logs",
+        (log(&r, 0), log(&r, 1)),
+        (vec![(0, Aborted)], vec![(0, Committed)]),
+    );
     c.is("E6: bytes", r.bytes, 899);
-    let records: Vec<(usize, ProposalOutcome)> =
-        r.core.metrics.proposals.iter().map(|p| (p.proposal_id, p.outcome)).collect();
+    let records: Vec<(usize, ProposalOutcome)> = r
+        .core
+        .metrics
+        .proposals
+        .iter()
+        .map(|p| (p.proposal_id, p.outcome))
+        .collect();
     c.is("E6: record", records, vec![(0, ProposalOutcome::Aborted)]);
 
     let mut r = open(NetworkGraph::line(2), 3, 0.0, 0.0, 1, Some(0), &[F; 3]);
     r.run().unwrap();
-    c.is("E8: slots 0", (r.rounds, r.core.current_slot, r.core.rng.cursor(), r.bytes), (1005, 0, 3, 0));
+    c.is(
+        "E8: slots 0",
+        (r.rounds, r.core.current_slot, r.core.rng.cursor(), r.bytes),
+        (1005, 0, 3, 0),
+    );
 
     let mut r = open(NetworkGraph::full_mesh(2), 0, 0.0, 0.0, 1, Some(0xFFFFFFFE), &[]);
     r.run().unwrap();
@@ -332,8 +414,117 @@ fn door(c: &mut Checks, seed: u64) {
         let (metrics, l, f, s) = TwoPcPipelineSim::new(config, g).run();
         c.is("door: words", rand_chacha::drawn(), ours.core.rng.cursor());
         c.is("door: counts", (l, f, s), counts(&ours.core.nodes));
-        c.is("door: metrics", format!("{metrics:?}"), format!("{:?}", ours.core.metrics));
+        c.is(
+            "door: metrics",
+            format!("{metrics:?}"),
+            format!("{:?}", ours.core.metrics),
+        );
     }
+}
+
+/// Random capture rooms: facts that hold in all of them, and a round draws exactly as many words as its cursor says.
+fn capture_facts(c: &mut Checks, seed: u64) {
+    let mut r = Prng::of(seed, "self-test capture");
+    let (mut goals, mut sent) = (0, 0);
+    for _ in 0..150 {
+        let n = 1 + r.index(7);
+        let rows = crate::graph::random_rows_of(&mut r, n);
+        let p = *r.pick(&[0.0, 0.0, 0.2, 1.0]);
+        let loss = *r.pick(&[0.0, 0.3, 0.9]);
+        let (vote_seed, timeout, slots) = (r.next(), r.below(6), r.below(25));
+        let mut room = Capture::open(
+            graph_of_rows(&rows),
+            r.below(3),
+            p,
+            vote_seed,
+            loss,
+            timeout,
+            slots,
+            1 + r.below(9),
+        );
+        let words: Vec<u64> = (0..4000).map(|_| r.next()).collect();
+        let mut g = ChaCha8Rng::of_words(&words, 0);
+        for _ in 0..4 {
+            if r.chance(1, 2) || room.protocol.current_term == 0 {
+                room.propose(r.index(n));
+            }
+            let before = g.cursor();
+            let (slot, bytes) = (room.slot, room.bytes);
+            // One word fewer than the round draws: it is missing, and the room and the cursor stay.
+            let drawn = room.cursor_after(&g).unwrap();
+            if drawn > before {
+                let mut short = ChaCha8Rng::of_words(&words[..drawn as usize - 1], before);
+                c.is("one word short", room.round(&mut short).is_err(), true);
+                c.is(
+                    "nothing moved",
+                    (short.cursor(), room.slot, room.bytes),
+                    (before, slot, bytes),
+                );
+            }
+            let mut just = ChaCha8Rng::of_words(&words[..drawn as usize], before);
+            let ran = room.round(&mut just).unwrap();
+            c.is("just enough words", just.cursor(), drawn);
+            g = ChaCha8Rng::of_words(&words, drawn);
+            goals += u64::from(ran.goal);
+            sent += room.bytes - bytes;
+            let (l, f, s) = counts(&room.nodes);
+            c.is("counts add up", l + f + s, n as u64 * room.slot);
+            c.is("D7: nobody sleeps", s, 0);
+            for m in &ran.moments {
+                let phases: Vec<String> = m
+                    .iter()
+                    .filter_map(|x| serde_json::from_slice::<CeTwoPcPacket>(&x.payload).ok())
+                    .map(|k| format!("{:?}", k.phase))
+                    .collect();
+                let both = phases.iter().any(|x| x == "Committed") && phases.iter().any(|x| x == "Aborted");
+                c.is("D8: not both", both, false);
+            }
+        }
+    }
+    c.is(
+        "some rounds reach the goal and some bytes are sent",
+        goals > 50 && sent > 50_000,
+        true,
+    );
+}
+
+/// Random pipeline rooms: logs only grow, no id twice, counts add up.
+fn pipeline_facts(c: &mut Checks, seed: u64) {
+    let mut r = Prng::of(seed, "self-test pipeline");
+    let mut mixed = 0;
+    for _ in 0..60 {
+        let n = 1 + r.index(6);
+        let rows = crate::graph::random_rows_of(&mut r, n);
+        let (t, p) = (r.index(6), *r.pick(&[0.0, 0.1, 0.5]));
+        let (loss, repeats) = (*r.pick(&[0.0, 0.3, 0.8]), 1 + r.below(3) as u32);
+        let slots = *r.pick(&[None, None, None, Some(0), Some(1), Some(3)]);
+        let words: Vec<u64> = (0..100_000).map(|_| r.next()).collect();
+        let settings = config(n, t, p, loss, repeats, slots, 1 + r.below(50), FOREVER);
+        let mut room = PipelineRoom::open(settings, graph_of_rows(&rows), &words, 0);
+        let mut logs: Vec<Vec<(u64, TwoPcState)>> = vec![Vec::new(); n];
+        let mut kept = true;
+        while !room.stopped {
+            room.round().unwrap();
+            for (i, s) in room.door.states().iter().enumerate() {
+                kept &= s.log.starts_with(&logs[i]);
+                kept &= s
+                    .log
+                    .iter()
+                    .all(|(a, _)| s.log.iter().filter(|(b, _)| a == b).count() == 1);
+                kept &= s.log.iter().all(|(a, _)| s.pending.iter().all(|k| k.tx_id != *a));
+                logs[i] = s.log.clone();
+            }
+        }
+        c.is("logs only grow, no id twice, none logged and pending", kept, true);
+        let (l, f, s) = counts(&room.core.nodes);
+        c.is("counts add up", l + f + s, n as u64 * room.core.current_slot);
+        c.is("at most T + 1002 rounds", room.rounds <= t as u64 + 1002, true);
+        let of = |id: u64, o: TwoPcState| logs.iter().any(|l| l.contains(&(id, o)));
+        mixed += (0..t as u64)
+            .filter(|id| of(*id, TwoPcState::Committed) && of(*id, TwoPcState::Aborted))
+            .count();
+    }
+    println!("oracle only: {mixed} transactions of random pipeline rooms were logged Committed by one position and Aborted by another");
 }
 
 /// `validate` is private; `from_file` leads to it, and the stand-in for toml reads JSON.
@@ -374,8 +565,16 @@ fn floods(c: &mut Checks) {
     let (mut next, mut rng) = (0, ChaCha8Rng::of_words(&[F, 0], 0));
     let end = flood(0, 0, &mut nodes, &g, 1, None, &mut rng, 0.5, &mut metrics, &mut next, 1);
     c.is("flood: end", end.ok(), Some(2));
-    c.is("flood: attempts", (metrics.rx_attempts, metrics.rx_success, rng.cursor()), (2, 1, 2));
-    c.is("flood: covered", (metrics.flood_nodes_covered, metrics.snapshots.len()), (2, 2));
+    c.is(
+        "flood: attempts",
+        (metrics.rx_attempts, metrics.rx_success, rng.cursor()),
+        (2, 1, 2),
+    );
+    c.is(
+        "flood: covered",
+        (metrics.flood_nodes_covered, metrics.snapshots.len()),
+        (2, 2),
+    );
     let mut rng = ChaCha8Rng::of_words(&[F], 0);
     let end = flood(2, 0, &mut nodes, &g, 1, None, &mut rng, 0.5, &mut metrics, &mut next, 1);
     c.is("flood: a word is missing", end.is_err(), true);
@@ -390,7 +589,10 @@ pub fn run(seed: u64) -> bool {
     floods(&mut c);
     pipelines(&mut c);
     door(&mut c, seed);
+    capture_facts(&mut c, seed);
+    pipeline_facts(&mut c, seed);
     validate(&mut c);
+    crate::packets::oracle_only(seed, 39_000);
     println!("oracle only: {} checks, {} failed", c.done, c.failed);
     c.failed == 0
 }

@@ -21,6 +21,8 @@ pub struct Tally {
 /// Lists as they are printed, with "x (5 times)" for x, x, x, x, x.
 fn runs_shortened(text: String) -> String {
     let mut out: Vec<String> = Vec::new();
+    // what the harness writes into a lent number before a call
+    let text = text.replace("11936128518282651045", "untouched");
     let (mut last, mut times) = ("", 0);
     let end = |last: &str, times: usize| match times {
         0..=3 => vec![last.to_string(); times],
@@ -63,7 +65,10 @@ impl Tally {
             return true;
         }
         self.differences += 1;
-        let (ours, theirs) = (runs_shortened(format!("{ours:?}")), runs_shortened(format!("{theirs:?}")));
+        let (ours, theirs) = (
+            runs_shortened(format!("{ours:?}")),
+            runs_shortened(format!("{theirs:?}")),
+        );
         self.keep(kind, size, input(), ours, theirs, 1);
         false
     }
@@ -104,11 +109,17 @@ impl Tally {
 
     pub fn print(&self) {
         for (kind, f) in &self.found {
-            println!("DIFFERENCE {}, {kind}, {} times; smallest input found:", self.part, f.times);
+            println!(
+                "DIFFERENCE {}, {kind}, {} times; smallest input found:",
+                self.part, f.times
+            );
             println!("  input: {}", f.input);
             println!("  ours:  {}", f.ours);
             println!("  Rust:  {}", f.theirs);
         }
-        println!("{}: {} compared, {} differences", self.part, self.compared, self.differences);
+        println!(
+            "{}: {} compared, {} differences",
+            self.part, self.compared, self.differences
+        );
     }
 }
