@@ -315,18 +315,13 @@ mod comparison {
         format!("n {} rows {rows:?}", rows.len())
     }
 
-    /// All that is asked of one graph. `every` asks for all pairs, else for some.
-    fn compare(t: &mut Tally, rows: &[u64], every: bool, r: &mut Prng) {
+    /// All that is asked of one graph. `every` asks for all pairs, else for some. The Rust's diameter is handed back.
+    fn compare(t: &mut Tally, rows: &[u64], every: bool, r: &mut Prng) -> usize {
         let n = rows.len();
         let g = graph_of_rows(rows);
         let at = size(rows);
-        t.same(
-            "diameter",
-            at,
-            || shown(rows),
-            &diameter(rows),
-            &(0, g.diameter() as u64),
-        );
+        let d = g.diameter();
+        t.same("diameter", at, || shown(rows), &diameter(rows), &(0, d as u64));
         let mut reach: Vec<Option<Vec<bool>>> = vec![None; n];
         for i in 0..n {
             let near: Vec<u64> = g.neighbors(i).iter().map(|j| *j as u64).collect();
@@ -360,6 +355,7 @@ mod comparison {
             let i = r.index(n);
             pair(i, i);
         }
+        d
     }
 
     const KINDS: [&str; 4] = ["diameter", "neighbours", "has_link", "reaches"];
@@ -598,14 +594,13 @@ mod comparison {
         for _ in 0..graphs {
             let rows = random_rows(&mut r);
             let before = t.differences;
-            compare(&mut t, &rows, false, &mut r);
+            let d = compare(&mut t, &rows, false, &mut r);
             if t.differences > before && shrunk < 20 {
                 shrunk += 1;
                 for kind in KINDS {
                     shrink(&mut t, kind, &rows, &mut r);
                 }
             }
-            let d = diameter(&rows).1.min(63) as usize;
             longest[d] += 1;
             deepest = deepest.max(d);
             let g = graph_of_rows(&rows);

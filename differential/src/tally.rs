@@ -115,7 +115,7 @@ impl Tally {
             );
             println!("  input: {}", f.input);
             println!("  ours:  {}", f.ours);
-            println!("  Rust:  {}", f.theirs);
+            println!("  due:   {}", f.theirs);
         }
         println!(
             "{}: {} compared, {} differences",
