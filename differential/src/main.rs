@@ -1,6 +1,7 @@
 //! Compares our archives with the original program, part by part. See README.md.
 
 mod graph;
+mod merges;
 mod oracle;
 mod packets;
 mod prng;
@@ -62,6 +63,7 @@ fn main() {
         match part.as_str() {
             "graph" => graph::sample(),
             "packets" => packets::sample(),
+            "merge" => merges::sample(),
             _ => usage(&format!("no sample of {part}")),
         }
         return;

@@ -834,7 +834,7 @@ pub fn oracle_only(seed: u64, texts: u64) {
     print_counts(&counts);
 }
 
-fn hexadecimal(text: &[u8]) -> String {
+pub fn hexadecimal(text: &[u8]) -> String {
     text.iter().map(|b| format!("{b:02X}")).collect()
 }
 

@@ -2,6 +2,7 @@
 //! the harness's own pieces (draws, graphs of any links, the door) to what they should be.
 
 use crate::oracle::*;
+use crate::packets::{Ce, Family};
 use crate::prng::Prng;
 use ctsim::config::SimConfig;
 use ctsim::network::NetworkGraph;
@@ -185,6 +186,41 @@ fn merges(c: &mut Checks) {
         let t = format!("{{\"term\":{n},\"phase\":\"Prepare\",\"proposal_data\":[],\"flags_bitmap\":[]}}");
         c.is("F13: refused by the Rust", reads(&t), false);
     }
+}
+
+/// Random merges: facts that hold in all of them, and every way of the rules is met.
+fn merge_facts(c: &mut Checks, seed: u64) {
+    let mut r = Prng::of(seed, "self-test merge");
+    let mut ways = std::collections::BTreeMap::new();
+    let read = |t: &[u8]| serde_json::from_slice::<CeTwoPcPacket>(t).ok();
+    for _ in 0..40_000 {
+        let case = crate::merges::random_case(&mut r);
+        *ways.entry(case.way()).or_insert(0u64) += 1;
+        let (new, after) = case.answer();
+        if !new {
+            c.is("Redundant never rewrites local", after, case.local);
+            continue;
+        }
+        c.is("what a merge writes is 01's form", Ce::due(&after).0.is_some(), true);
+        let (a, rec) = (read(&after).unwrap(), read(&case.received).unwrap());
+        c.is("the bitmap has n entries or more", a.flags_bitmap.len() >= case.n, true);
+        c.is("the own entry is marked", a.flags_bitmap[case.position], true);
+        match read(&case.local) {
+            Some(l) if l.term == rec.term => {
+                c.is("a merge lowers no phase", a.phase as u64 >= l.phase as u64, true);
+                c.is("data stays local", (a.term, a.proposal_data), (l.term, l.proposal_data));
+            }
+            _ => c.is(
+                "adopting takes term and data",
+                (a.term, a.proposal_data),
+                (rec.term, rec.proposal_data),
+            ),
+        }
+    }
+    for (way, times) in &ways {
+        println!("oracle only: merge, {way}: {times}");
+    }
+    c.is("ways met", ways.len() >= 24, true);
 }
 
 fn captures(c: &mut Checks) {
@@ -585,6 +621,7 @@ pub fn run(seed: u64) -> bool {
     draws(&mut c);
     links(&mut c, seed);
     merges(&mut c);
+    merge_facts(&mut c, seed);
     captures(&mut c);
     floods(&mut c);
     pipelines(&mut c);
