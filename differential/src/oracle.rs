@@ -1,0 +1,365 @@
+//! The original program, driven with a given list of words: graphs of any links, merges, capture rounds, identical
+//! floods, pipeline rounds. What 01 adds to the Rust (bytes sent, the progress raise of a capture room) is added
+//! here, beside it, and marked so.
+
+use ctsim::config::{CeConfig, CiConfig, NetworkConfig, SimConfig};
+use ctsim::door::{Open, Pipeline, TwoPcPipeline};
+use ctsim::metrics::MetricsCollector;
+use ctsim::network::NetworkGraph;
+use ctsim::node::{Node, NodeState};
+use ctsim::phy::ce::run_ce_round;
+use ctsim::phy::ci::flood_identical_round;
+use ctsim::protocol::two_pc_ce::TwoPcCE;
+use ctsim::protocol::{MergeResult, ProposalOutcome, Protocol};
+use ctsim::sim::pipeline::CiPipelineCore;
+use rand_chacha::{ChaCha8Rng, MissingWord};
+use std::collections::HashSet;
+use std::panic::{catch_unwind, resume_unwind, AssertUnwindSafe};
+
+/// Panics that say "no word left" are answers here: they print nothing.
+pub fn quiet_panics() {
+    let before = std::panic::take_hook();
+    std::panic::set_hook(Box::new(move |info| {
+        if info.payload().downcast_ref::<MissingWord>().is_none() {
+            before(info);
+        }
+    }));
+}
+
+/// Runs `f`, and says so if it drew a word that was not there.
+pub fn caught<T>(f: impl FnOnce() -> T) -> Result<T, MissingWord> {
+    match catch_unwind(AssertUnwindSafe(f)) {
+        Ok(t) => Ok(t),
+        Err(e) => match e.downcast::<MissingWord>() {
+            Ok(m) => Err(*m),
+            Err(e) => resume_unwind(e),
+        },
+    }
+}
+
+// ---- links ----
+
+/// A graph of any links: mark j of row i is a link from i to j. `NetworkGraph` has no constructor for one-way links, and its one
+/// field is private; a struct of one field that has the field's size holds nothing else.
+pub fn graph_of_rows(rows: &[u64]) -> NetworkGraph {
+    assert_eq!(
+        std::mem::align_of::<Vec<HashSet<usize>>>(),
+        std::mem::align_of::<NetworkGraph>()
+    );
+    assert_eq!(
+        std::mem::size_of::<Vec<HashSet<usize>>>(),
+        std::mem::size_of::<NetworkGraph>()
+    );
+    let adj: Vec<HashSet<usize>> = rows
+        .iter()
+        .map(|r| (0..64).filter(|j| r >> j & 1 == 1).collect())
+        .collect();
+    // SAFETY: NetworkGraph is a struct of this one field, of the same size and alignment (above).
+    unsafe { std::mem::transmute::<Vec<HashSet<usize>>, NetworkGraph>(adj) }
+}
+
+pub fn rows_of_graph(g: &NetworkGraph) -> Vec<u64> {
+    (0..g.num_nodes())
+        .map(|i| g.neighbors(i).iter().fold(0, |r, j| r | 1 << j))
+        .collect()
+}
+
+/// The positions that i reaches, by the Rust's neighbours. 01: i reaches itself.
+pub fn reached(g: &NetworkGraph, i: usize) -> Vec<bool> {
+    let mut seen = vec![false; g.num_nodes()];
+    seen[i] = true;
+    let mut waiting = vec![i];
+    while let Some(u) = waiting.pop() {
+        for v in g.neighbors(u) {
+            if !seen[v] {
+                seen[v] = true;
+                waiting.push(v);
+            }
+        }
+    }
+    seen
+}
+
+// ---- merge and votes ----
+
+pub fn protocol(n: usize, term: u64, p: f64, seed: u64) -> TwoPcCE {
+    TwoPcCE {
+        num_nodes: n,
+        current_term: term,
+        abort_probability: p,
+        seed,
+    }
+}
+
+/// `merge`: true for NewInfo, and what local is afterwards.
+pub fn merge(n: usize, p: f64, seed: u64, position: usize, local: &[u8], received: &[u8]) -> (bool, Vec<u8>) {
+    let mut local = local.to_vec();
+    let r = protocol(n, 0, p, seed).merge(&mut local, received, position);
+    (r == MergeResult::NewInfo, local)
+}
+
+/// `should_abort_app` is private: the initiator of a proposal shows its vote. True for yes. Terms from 1.
+pub fn votes_yes(term: u64, position: usize, p: f64, seed: u64) -> bool {
+    let text = protocol(0, term - 1, p, seed).init_proposal(position, position + 1);
+    let packet: ctsim::protocol::two_pc_ce::CeTwoPcPacket = serde_json::from_slice(&text).unwrap();
+    packet.phase != ctsim::protocol::two_pc_ce::TwoPcCePhase::Aborted
+}
+
+// ---- capture rooms ----
+
+pub struct Capture {
+    pub protocol: TwoPcCE,
+    pub nodes: Vec<Node>,
+    pub graph: NetworkGraph,
+    pub loss: f64,
+    pub timeout: u64,
+    pub round_slots: u64,
+    pub interval: u64,
+    pub metrics: MetricsCollector,
+    pub next_row: u64,
+    pub slot: u64,
+    pub initiator: usize,
+    /// 01's: the present term's goal was reached in an earlier round.
+    pub term_done: bool,
+    /// 01's: bytes sent over all rounds.
+    pub bytes: u64,
+}
+
+/// A capture round that ran to its own end.
+pub struct Ran {
+    pub end: u64,
+    pub goal: bool,
+    /// The positions at the round's start and after each of its slots. The last of a round with goal was only ticked.
+    pub moments: Vec<Vec<Node>>,
+}
+
+impl Capture {
+    #[allow(clippy::too_many_arguments)]
+    pub fn open(
+        graph: NetworkGraph,
+        start_term: u64,
+        p: f64,
+        seed: u64,
+        loss: f64,
+        timeout: u64,
+        round_slots: u64,
+        interval: u64,
+    ) -> Capture {
+        let n = graph.num_nodes();
+        Capture {
+            protocol: protocol(n, start_term, p, seed),
+            nodes: (0..n).map(Node::new).collect(),
+            graph,
+            loss,
+            timeout,
+            round_slots,
+            interval,
+            metrics: MetricsCollector::new(),
+            next_row: 0,
+            slot: 0,
+            initiator: 0,
+            term_done: false,
+            bytes: 0,
+        }
+    }
+
+    pub fn propose(&mut self, initiator: usize) {
+        let n = self.nodes.len();
+        let text = self.protocol.init_proposal(initiator, n);
+        for i in 0..n {
+            self.nodes[i].payload = self.protocol.init_node_payload(i);
+        }
+        self.nodes[initiator].payload = text;
+        self.initiator = initiator;
+        self.term_done = false;
+    }
+
+    fn run(&self, slots: u64, rng: &mut ChaCha8Rng) -> (u64, bool, Vec<Node>, MetricsCollector, u64) {
+        let mut nodes = self.nodes.clone();
+        let mut metrics = self.metrics.clone();
+        let mut next_row = self.next_row;
+        let (end, goal) = run_ce_round(
+            self.slot,
+            self.initiator,
+            &mut nodes,
+            &self.graph,
+            &CeConfig {
+                listen_timeout: self.timeout,
+                max_round_slots: slots,
+            },
+            &self.protocol,
+            rng,
+            self.loss,
+            &mut metrics,
+            &mut next_row,
+            self.interval,
+        );
+        (end, goal, nodes, metrics, next_row)
+    }
+
+    /// One round. A missing word leaves room and generator as they were. The slots in between are seen by running the
+    /// round anew with every shorter length: the words are the same, so the slots are.
+    pub fn round(&mut self, rng: &mut ChaCha8Rng) -> Result<Ran, MissingWord> {
+        let mut whole = rng.clone();
+        let (end, goal, nodes, metrics, next_row) = caught(|| self.run(self.round_slots, &mut whole))?;
+        let mut moments = Vec::new();
+        for slots in 0..end - self.slot {
+            moments.push(self.run(slots, &mut rng.clone()).2);
+        }
+        moments.push(nodes.clone());
+        // 01's bytes sent: every flooding position of a slot whose goal test failed.
+        let acted = moments.len() - 1 - usize::from(goal);
+        for m in &moments[..acted] {
+            for node in m {
+                if node.state == NodeState::Flood {
+                    self.bytes += node.payload.len() as u64;
+                }
+            }
+        }
+        self.nodes = nodes;
+        self.metrics = metrics;
+        self.next_row = next_row;
+        self.slot = end;
+        *rng = whole;
+        // 01's raise: the first round of a term that reaches the goal.
+        if goal && !self.term_done {
+            self.term_done = true;
+            for node in &mut self.nodes {
+                node.progress_count += 1;
+            }
+        }
+        Ok(Ran { end, goal, moments })
+    }
+
+    /// Where the cursor would stand after a round; room and generator are not moved.
+    pub fn cursor_after(&self, rng: &ChaCha8Rng) -> Result<u64, MissingWord> {
+        let mut whole = rng.clone();
+        caught(|| self.run(self.round_slots, &mut whole))?;
+        Ok(whole.cursor())
+    }
+
+    pub fn outcome(&self) -> ProposalOutcome {
+        let payloads: Vec<Vec<u8>> = self.nodes.iter().map(|n| n.payload.clone()).collect();
+        self.protocol.proposal_outcome(&payloads)
+    }
+}
+
+// ---- identical flood ----
+
+/// One flood of what the initiator holds, from any states.
+#[allow(clippy::too_many_arguments)]
+pub fn flood(
+    start: u64,
+    initiator: usize,
+    nodes: &mut [Node],
+    graph: &NetworkGraph,
+    repeats: u32,
+    round_slots: Option<u64>,
+    rng: &mut ChaCha8Rng,
+    loss: f64,
+    metrics: &mut MetricsCollector,
+    next_row: &mut u64,
+    interval: u64,
+) -> Result<u64, MissingWord> {
+    let config = CiConfig {
+        flood_repeats: repeats,
+        round_slots,
+    };
+    caught(|| {
+        flood_identical_round(
+            start, initiator, nodes, graph, &config, rng, loss, metrics, next_row, interval,
+        )
+    })
+}
+
+// ---- pipeline rooms ----
+
+#[allow(clippy::too_many_arguments)]
+pub fn config(
+    n: usize,
+    transactions: usize,
+    p: f64,
+    loss: f64,
+    repeats: u32,
+    round_slots: Option<u64>,
+    interval: u64,
+    bound: u64,
+) -> SimConfig {
+    SimConfig {
+        seed: 0,
+        phy_mode: "ci".into(),
+        network: NetworkConfig {
+            num_nodes: n,
+            topology: String::new(),
+            loss_rate: loss,
+            graph_file: None,
+        },
+        ci: Some(CiConfig {
+            flood_repeats: repeats,
+            round_slots,
+        }),
+        ce: None,
+        protocol: String::new(),
+        num_proposals: transactions,
+        snapshot_interval: interval,
+        max_slots: bound,
+        abort_probability: p,
+        quiet: true,
+    }
+}
+
+pub struct PipelineRoom {
+    pub core: CiPipelineCore,
+    pub door: Box<dyn Pipeline>,
+    pub rounds: u64,
+    pub stopped: bool,
+    /// 01's: bytes sent over all rounds.
+    pub bytes: u64,
+}
+
+impl PipelineRoom {
+    pub fn open(config: SimConfig, graph: NetworkGraph, words: &[u64], cursor: u64) -> PipelineRoom {
+        let (n, t, p) = (graph.num_nodes(), config.num_proposals, config.abort_probability);
+        let mut core = CiPipelineCore::new(config, graph);
+        core.rng = ChaCha8Rng::of_words(words, cursor);
+        PipelineRoom {
+            core,
+            door: TwoPcPipeline::open(n, t, p),
+            rounds: 0,
+            stopped: false,
+            bytes: 0,
+        }
+    }
+
+    pub fn floods(&self) -> u64 {
+        self.core.nodes.iter().map(|n| n.slots_flood).sum()
+    }
+
+    /// One round, as `run_ci_pipeline` does it. A missing word leaves the room half done: what comes after is to be replayed
+    /// from the opening, since the Rust's state can't be copied.
+    pub fn round(&mut self) -> Result<(), MissingWord> {
+        assert!(!self.stopped && self.core.current_slot < self.core.config.max_slots);
+        caught(|| {
+            self.door.prepare_round(&mut self.core);
+            let length = self.core.nodes[self.core.initiator()].payload.len() as u64;
+            let before = self.floods();
+            self.core.flood_identical();
+            // 01's bytes sent: every flooder sends the initiator's payload.
+            self.bytes += (self.floods() - before) * length;
+            self.door.process_round(&mut self.core);
+            self.rounds += 1;
+            if self.door.should_stop(&self.core) {
+                self.stopped = true;
+            } else {
+                self.core.round_num += 1;
+            }
+        })
+    }
+
+    pub fn run(&mut self) -> Result<(), MissingWord> {
+        while !self.stopped && self.core.current_slot < self.core.config.max_slots {
+            self.round()?;
+        }
+        Ok(())
+    }
+}
