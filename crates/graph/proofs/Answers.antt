@@ -1,18 +1,14 @@
 -- The answers of the calls that are open to others, case by case as the code comes to them. Assumes nothing.
-use mathlib.Core.Path.{_≡_, refl, sym, ap, _∙_}
-use mathlib.Core.Bool.{Bool, true, false, not, _&&_}
+use mathlib.Core.Path.{_≡_}
+use mathlib.Core.Bool.{Bool, true, false}
 use mathlib.Core.List.{List}
 use Prim.Native.Nat.{ℕ, _/_, _%_, _≤_, _<_}
 use native.Mathlib.Omega.{arith}
-use lib.Dec.{eqb, ltb, leb}
 use lib.ListN.{length, getD, replicate}
 use borrow.Author.Tests.{eq-eqb, ne-eqb, lt-ltb, le-ltb, le-leb, lt-leb}
-use Rattle.loops.specs.Pick.{either}
 use Rattle.loops.specs.Table.{filled}
 use Rattle.marks.specs.Marks.{has, allOf}
 use Rattle.graph.specs.declared.network.NetworkGraph.{NetworkGraph}
-use Rattle.graph.specs.declared.network.Built.{Built}
-use Rattle.graph.specs.declared.network.NeighborList.{NeighborList}
 use Rattle.graph.specs.declared.network.Topology.the-variants.{FullMesh, Line, Ring, Grid, Tree}
 use Rattle.graph.specs.Links.{accepted, refused, isSize, builtOf, linkOf, gridOf, plainOf, topologyOf, inside, rowsOf, positionRefusal, rowOf, listOf, neighborsOf, linked, testOf}
 use Rattle.graph.specs.Paths.{diameterOf, lengthOf}

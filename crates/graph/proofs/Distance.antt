@@ -2,16 +2,15 @@
 use mathlib.Core.Path.{_≡_, refl, sym, ap, _∙_, subst}
 use mathlib.Core.Bool.{Bool, true, false, not, _||_, _&&_}
 use mathlib.Core.Logic.{_⊎_, inl, inr}
-use Prim.Native.Nat.{ℕ, zero, suc, _+_, _-_, _≤_, _<_, _^_, max}
+use Prim.Native.Nat.{ℕ, zero, suc, _+_, _-_, _≤_, _<_, _^_}
 use native.Mathlib.Nat.{le-antisymm, add-zero, add-suc}
 use native.Mathlib.Decide.{decLe}
 use native.Mathlib.Omega.{arith}
 use lib.Dec.{eqb, ltb}
-use borrow.Author.Tests.{eq-eqb, ne-eqb, eqb-true, eqb-false, lt-ltb, ltb-true}
+use borrow.Author.Tests.{eq-eqb, eqb-true, eqb-false, lt-ltb, ltb-true}
 use Rattle.loops.specs.Pick.{either}
-use Rattle.loops.specs.Upto.{upto}
 use Rattle.loops.specs.Highest.{highest, highest-bound, highest-met}
-use Rattle.marks.specs.Marks.{has, marks, anyOf, countOf}
+use Rattle.marks.specs.Marks.{has, anyOf, countOf}
 use Rattle.marks.specs.Laws.{has-out, same}
 use Rattle.marks.specs.Sets.{and-true, true-and, any-at, any-found, marks-lt, has-marks, count-le, count-grows}
 use Rattle.graph.specs.declared.network.NetworkGraph.{NetworkGraph}

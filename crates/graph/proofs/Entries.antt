@@ -1,12 +1,12 @@
 -- The answers of the entries for C, case by case. Assumes nothing.
-use mathlib.Core.Path.{_≡_, refl, sym, ap, _∙_}
-use mathlib.Core.List.{List, [], _∷_, _++_}
+use mathlib.Core.Path.{_≡_, refl, sym, _∙_}
+use mathlib.Core.List.{List, [], _∷_}
 use Prim.Native.Nat.{ℕ, _+_, _≤_, _<_}
-use native.Mathlib.Nat.{zero-add, le-antisymm}
+use native.Mathlib.Nat.{zero-add}
 use native.Mathlib.Numerals.{add-one}
 use native.Mathlib.Omega.{arith}
 use lib.ListN.{length, take, getD, set}
-use lib.Seq.{sets, take-suc, take-all, length-take-le}
+use lib.Seq.{sets, take-suc, length-take-le}
 use borrow.Author.Tests.{eq-eqb, ne-eqb, le-leb, lt-leb}
 use Rattle.loops.specs.Stores.{sets-append}
 use Rattle.graph.specs.Console.{first, room64, unless}

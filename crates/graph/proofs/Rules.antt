@@ -1,25 +1,25 @@
 -- What the builders' tests come to: differences for sums, and a quotient for a product that could wrap. Assumes nothing.
-use mathlib.Core.Path.{_≡_, refl, sym, ap, _∙_, subst}
+use mathlib.Core.Path.{_≡_, refl, sym, ap, _∙_}
 use mathlib.Core.Bool.{Bool, true, false, not, _||_, _&&_}
-use Prim.Native.Nat.{ℕ, zero, suc, _+_, _-_, _*_, _/_, _≤_, _<_, _^_}
-use native.Mathlib.Nat.{le-div-iff-mul-le, div-lt-iff-lt-mul, div-eq-of-lt-le, suc-mul, mul-zero}
+use mathlib.Core.List.{List, [], _∷_, _++_, append-nil}
+use Prim.Native.Nat.{ℕ, suc, _+_, _-_, _*_, _/_, _≤_, _<_, _^_}
+use native.Mathlib.Nat.{le-div-iff-mul-le, div-lt-iff-lt-mul, div-eq-of-lt-le, suc-mul}
 use native.Mathlib.Numerals.{add-one}
 use native.Mathlib.Omega.{arith}
 use lib.Dec.{eqb, ltb, leb}
-use lib.ListN.{length, getD, set, replicate, length-append}
+use lib.ListN.{length, set, replicate, length-append}
 use lib.Seq.{sets}
+use borrow.Author.Tests.{eq-eqb, ne-eqb, eqb-true, eqb-false, lt-ltb, le-ltb, ltb-true, le-leb, leb-true, lt-leb}
 use Rattle.loops.specs.Pick.{either}
 use Rattle.loops.specs.Stores.{sets-append}
-use borrow.Author.Tests.{eq-eqb, ne-eqb, eqb-true, eqb-false, lt-ltb, le-ltb, ltb-true, le-leb, leb-true, lt-leb}
-use Rattle.marks.specs.Sets.{iff, and-true, true-and, all-at, all-found, none-zero, members-more, members-count, count-le}
-use mathlib.Core.List.{List, [], _∷_, _++_, append-nil}
 use Rattle.loops.specs.Table.{filled}
-use Rattle.marks.specs.Marks.{has, marks, allOf, members, countOf}
+use Rattle.marks.specs.Sets.{iff, and-true, true-and, all-at, all-found, none-zero, members-more, members-count, count-le}
+use Rattle.marks.specs.Marks.{has, marks, allOf, members}
 use Rattle.marks.specs.Laws.{has-none}
 use Rattle.graph.specs.declared.network.NetworkGraph.{NetworkGraph}
 use Rattle.graph.specs.declared.network.NeighborList.{NeighborList}
 use Rattle.graph.specs.declared.network.Topology.{Topology}
-use Rattle.graph.specs.Links.{treeRule, gridRule, ringRule, nextRule, linkOf, graphBy, builtOf, plainOf, accepted, refused, inside, listOf, positionRefusal, pairRefusal}
+use Rattle.graph.specs.Links.{treeRule, gridRule, nextRule, linkOf, graphBy, builtOf, plainOf, accepted, refused, inside, listOf, positionRefusal, pairRefusal}
 
 pub eqb-iff : (a b c d : ℕ) → (a ≡ b → c ≡ d) → (c ≡ d → a ≡ b) → eqb a b ≡ eqb c d
 eqb-iff a b c d f g = iff (eqb a b) (eqb c d) (λ e. eq-eqb c d (f (eqb-true a b e))) (λ e. eq-eqb a b (g (eqb-true c d e)))

@@ -1,16 +1,15 @@
 -- A wave's steps: where a front leads, and what it has seen. Assumes nothing.
-use mathlib.Core.Path.{_≡_, refl, sym, ap, ap₂, _∙_, subst}
+use mathlib.Core.Path.{_≡_, refl, sym, ap, _∙_, subst}
 use mathlib.Core.Bool.{Bool, true, false, not, _||_, _&&_}
 use mathlib.Core.List.{List}
 use mathlib.Core.Logic.{_⊎_, inl, inr}
 use Prim.Native.Nat.{ℕ, zero, suc, _+_, _-_, _≤_, _<_, _^_}
 use native.Mathlib.Nat.{add-zero, add-suc}
 use native.Mathlib.Numerals.{add-one}
-use native.Mathlib.Decide.{decLe}
 use native.Mathlib.Omega.{arith}
 use lib.Dec.{eqb, ltb}
 use lib.ListN.{getD}
-use borrow.Author.Tests.{eq-eqb, ne-eqb, eqb-true, eqb-false, lt-ltb, ltb-true, ltb-false, not-true}
+use borrow.Author.Tests.{eq-eqb, eqb-true, lt-ltb, ltb-true, not-true}
 use Rattle.loops.specs.Pick.{either}
 use Rattle.marks.specs.Marks.{has, anyOf, countOf, Lowest}
 use Rattle.marks.specs.Laws.{has-none, same}

@@ -1,14 +1,14 @@
 -- Document 01, "Links", and refusals 2, 3 and 8: what a graph of links is, and which links each builder makes.
 -- A link from i to j says that j hears i. Assumes nothing.
-use mathlib.Core.Bool.{Bool, true, false, not, _||_, _&&_}
+use mathlib.Core.Bool.{Bool, false, not, _||_, _&&_}
 use mathlib.Core.List.{List}
-use Prim.Native.Nat.{ℕ, _+_, _-_, _*_, _/_, _%_, _≤_, _<_}
+use Prim.Native.Nat.{ℕ, _+_, _*_, _/_, _%_}
 use lib.ListN.{length, getD, replicate}
 use lib.Seq.{sets}
 use lib.Dec.{eqb, ltb, leb}
 use Rattle.loops.specs.Pick.{either}
 use Rattle.loops.specs.Table.{filled}
-use Rattle.marks.specs.Marks.{has, marks, anyOf, allOf, members}
+use Rattle.marks.specs.Marks.{has, marks, allOf, members}
 use Rattle.graph.specs.declared.network.NetworkGraph.{NetworkGraph}
 use Rattle.graph.specs.declared.network.Built.{Built}
 use Rattle.graph.specs.declared.network.NeighborRow.{NeighborRow}

@@ -1,5 +1,5 @@
 -- Document 01, "Links": the diameter, said by paths, and the same as a number that computes. Assumes nothing.
-use mathlib.Core.Bool.{Bool, true, _||_, _&&_}
+use mathlib.Core.Bool.{true, _||_, _&&_}
 use mathlib.Core.Path.{_≡_}
 use Prim.Native.Nat.{ℕ, zero, suc, _≤_, _<_, max}
 use lib.Dec.{eqb}

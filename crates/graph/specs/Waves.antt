@@ -1,8 +1,8 @@
 -- What a wave holds that goes out from one position, a link a step. Assumes nothing.
-use mathlib.Core.Bool.{Bool, true, false, not, _||_, _&&_}
+use mathlib.Core.Bool.{not, _&&_}
 use mathlib.Core.List.{List}
 use mathlib.Core.Path.{_≡_}
-use Prim.Native.Nat.{ℕ, zero, suc, _+_, _<_, _^_}
+use Prim.Native.Nat.{ℕ, _+_, _<_, _^_}
 use lib.ListN.{getD}
 use lib.Dec.{eqb, ltb}
 use Rattle.loops.specs.Pick.{either}
