@@ -3,3 +3,4 @@ pub mod Distance
 pub mod Spreads
 pub mod Answers
 pub mod Entries
+pub mod Cases

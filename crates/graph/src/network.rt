@@ -1,10 +1,10 @@
 // Ported from network.rs: who hears whom. A link from i to j says that j hears i; links may be one-way or to oneself.
 // Every call answers with 01's refusal number beside its value (0: none); a refused call's value is empty.
 ghost use mathlib.Core.Path.{_≡_};
-ghost use mathlib.Core.Bool.{_||_, _&&_, not};
-ghost use Prim.Native.Nat.{ℕ, _+_, _*_, _/_, _≤_, _<_, max};
+ghost use mathlib.Core.Bool.{_||_, _&&_};
+ghost use Prim.Native.Nat.{ℕ, _+_, _/_, _≤_, _<_, max};
 ghost use lib.ListN.{length, getD, set};
-ghost use lib.Dec.{eqb, ltb, leb};
+ghost use lib.Dec.{eqb, ltb};
 ghost use Rattle.loops.specs.Pick.{either};
 ghost use Rattle.loops.specs.Table.{filled};
 ghost use Rattle.marks.specs.Marks.{has, marks, anyOf, allOf};

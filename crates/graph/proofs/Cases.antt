@@ -1,0 +1,42 @@
+-- The rules computed: some of the Rust's answers, and what 01 says of small rings. Assumes nothing.
+use mathlib.Core.Path.{_≡_, refl}
+use mathlib.Core.Bool.{Bool, true, false, _&&_}
+use mathlib.Core.List.{[], _∷_}
+use Prim.Native.Nat.{ℕ}
+use lib.Dec.{ltb}
+use lib.ListN.{getD, take}
+use borrow.Author.Tests.{ltb-true}
+use Rattle.loops.specs.Table.{filled, tabulate, filled-at}
+use Rattle.marks.specs.Marks.{has, marks, anyOf}
+use Rattle.marks.specs.Sets.{has-marks}
+use Rattle.graph.specs.declared.network.Topology.the-variants.{FullMesh, Line, Ring, Grid, Tree}
+use Rattle.graph.specs.Links.{graphBy, linked, linkOf, aheadOf, meshRule, nextRule, ringRule, gridRule, treeRule}
+use Rattle.graph.specs.Paths.{diameterOf}
+
+-- A graph that is built by a rule has just the links of the rule.
+pub built-links : (n : ℕ) (link : ℕ → ℕ → Bool) (i j : ℕ) → linked (graphBy n link) i j ≡ ((ltb i n && ltb j n) && link i j)
+unfolding linked graphBy
+built-links n link i j = go (ltb i n) refl
+  where
+    and-self : (a b : Bool) → (a && (a && b)) ≡ (a && b)
+    and-self true b = refl
+    and-self false b = refl
+
+    go : (t : Bool) → ltb i n ≡ t → ((t && ltb j n) && has (getD (filled 0 64 n (λ k. marks n (link k))) i 0) j) ≡ ((t && ltb j n) && link i j)
+    go true e = rw (filled-at 0 64 n (λ k. marks n (link k)) i 0 (ltb-true i n e), has-marks n (link i) j) (and-self (ltb j n) (link i j))
+    go false e = refl
+
+-- A ring of one and of two are lines.
+pub small-rings : (graphBy 1 (linkOf Ring 1) ≡ graphBy 1 (linkOf Line 1)) × (graphBy 2 (linkOf Ring 2) ≡ graphBy 2 (linkOf Line 2))
+unfolding graphBy filled tabulate marks linkOf aheadOf nextRule ringRule
+small-rings = (refl, refl)
+
+-- diameters of a mesh of 2, a line of 3, a ring of 4, a grid of two rows of three, a tree of 4 with one child each, and 3 without links
+pub diameters : (diameterOf (graphBy 2 (linkOf FullMesh 2)) ≡ 1) × (diameterOf (graphBy 3 (linkOf Line 3)) ≡ 2) × (diameterOf (graphBy 4 (linkOf Ring 4)) ≡ 2) × (diameterOf (graphBy 6 (linkOf (Grid 3) 6)) ≡ 3) × (diameterOf (graphBy 4 (linkOf (Tree 1) 4)) ≡ 3) × (diameterOf (graphBy 3 (linkOf (Tree 0) 3)) ≡ 0)
+unfolding diameterOf graphBy filled tabulate marks anyOf linkOf aheadOf meshRule nextRule ringRule gridRule treeRule
+diameters = (refl, refl, refl, refl, refl, refl)
+
+-- the rows of a grid of two rows of three, and of a tree of 4 with one child each
+pub rows-of : (take 6 (graphBy 6 (linkOf (Grid 3) 6) .adj) ≡ 10 ∷ 21 ∷ 34 ∷ 17 ∷ 42 ∷ 20 ∷ []) × (take 4 (graphBy 4 (linkOf (Tree 1) 4) .adj) ≡ 2 ∷ 5 ∷ 10 ∷ 4 ∷ [])
+unfolding graphBy filled tabulate marks linkOf aheadOf nextRule gridRule treeRule
+rows-of = (refl, refl)
