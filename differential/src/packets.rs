@@ -1070,7 +1070,7 @@ mod comparison {
         );
     }
 
-    /// Refusals of the reader for lengths (10, before 9) and of the writer for numbers outside the limits (9).
+    /// Refusals of the reader for lengths (10, before 9) and of the writer for numbers outside the limits (9, behind a stated length over its buffer).
     fn refusals<F: Family>(t: &mut Tally, r: &mut Prng) {
         for _ in 0..2000 {
             let mut text = F::text(&random::<F>(r));
@@ -1110,14 +1110,15 @@ mod comparison {
             ]);
             numbers[which] = least.max(if r.chance(1, 2) { over } else { least });
             let (buf, at) = (vec![WAS_BYTE; 1000], r.below(9));
-            // Data of the stated length is there where that can be, so that only 9 is true.
+            // Data of the stated length is there where that can be, so that only 9 is true; a longer statement is 10, before 9.
             let data = vec![1; 64.max(numbers[F::DATA_LENGTH].min(1000) as usize)];
+            let due = if numbers[F::DATA_LENGTH] > data.len() as u64 { 10 } else { 9 };
             t.same(
                 &format!("{} written, outside the limits", F::NAME),
                 1,
                 || format!("numbers {numbers:?} at {at} of 1000, {} data bytes", data.len()),
                 &write::<F>(&numbers, &data, &buf, at),
-                &(9, Text(buf.clone()), WAS),
+                &(due, Text(buf.clone()), WAS),
             );
         }
     }
