@@ -1,1 +1,4 @@
 pub mod Texts
+pub mod Founds
+pub mod Words
+pub mod Writes

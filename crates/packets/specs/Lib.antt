@@ -1,1 +1,3 @@
 pub mod Packets
+pub mod Reading
+pub mod Writing

@@ -123,11 +123,14 @@ pipelineText p =
     ++ keyEnd)))))))))))))))))
 
 -- refusal 9: a packet within the limits has at most 64 entries in its bitmap and at most 32 bytes of data
-unfoldable pub ceWithin : CeTwoPcPacket → Bool
-ceWithin p = leb (p .«flags_bitmap» .len) 64 && leb (p .«proposal_data» .len) 32
+unfoldable pub limits : ℕ → ℕ → Bool
+limits entries bytes = leb entries 64 && leb bytes 32
 
-unfoldable pub pipelineWithin : TwoPcPacket → Bool
-pipelineWithin p = leb (p .«flags_bitmap» .len) 64 && leb (p .«transaction_data» .len) 32
+abbrev pub ceWithin : CeTwoPcPacket → Bool
+ceWithin p = limits (p .«flags_bitmap» .len) (p .«proposal_data» .len)
+
+abbrev pub pipelineWithin : TwoPcPacket → Bool
+pipelineWithin p = limits (p .«flags_bitmap» .len) (p .«transaction_data» .len)
 
 -- ---- The packets that a text stands for: within the limits, numbers of 64 bits, bytes of 8, and nothing behind the lengths.
 pub record ValidBitmap (b : Bitmap) : Type 0 where

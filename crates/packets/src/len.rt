@@ -10,10 +10,10 @@ ghost use lib.ListN.{length, take};
 ghost use Rattle.texts.specs.Decimal.{decimal};
 ghost use Rattle.marks.specs.Marks.{marksOf};
 ghost use Rattle.texts.specs.Readers.{boolText, itemsText};
-ghost use Rattle.packets.specs.Packets.{phaseText, bitmapText, dataText, txText, stateText};
+ghost use Rattle.packets.specs.Packets.{limits, phaseText, bitmapText, dataText, txText, stateText};
 
 pub(crate) fn decimal_len(n: u64) -> usize
-    ensures { λ r. ⌜ r ≡ length (decimal n) ⌝ }
+    ensures { λ r. ⌜ (r ≡ length (decimal n)) × (r ≤ 20) ⌝ }
 {
     let mut rest = n;
     let mut len = 1;
@@ -70,7 +70,7 @@ pub(crate) fn bitmap_len(b: Bitmap) -> usize
 // A byte and what stands before it.
 fn bytes_len(d: &[u8], n: usize) -> usize
     requires { ⌜ (n ≤ 32) × (n ≤ length (now d)) ⌝ }
-    ensures { λ r. ⌜ r ≡ length (itemsText decimal (take n (now (d .entry)))) ⌝ }
+    ensures { λ r. ⌜ (r ≡ length (itemsText decimal (take n (now (d .entry))))) × (r ≤ 673) ⌝ }
 {
     let mut len = 1;
     let mut i = 0;
@@ -83,7 +83,7 @@ fn bytes_len(d: &[u8], n: usize) -> usize
 
 pub(crate) fn data_len(d: Data) -> usize
     requires { ⌜ d .len ≤ 32 ⌝ }
-    ensures { λ r. ⌜ r ≡ length (dataText d) ⌝ }
+    ensures { λ r. ⌜ (r ≡ length (dataText d)) × (r ≤ 673) ⌝ }
 {
     let bytes = d.bytes;
     if d.len == 0 {
@@ -94,7 +94,7 @@ pub(crate) fn data_len(d: Data) -> usize
 }
 
 pub(crate) fn tx_len(p: PiggybackTx) -> usize
-    ensures { λ r. ⌜ r ≡ length (txText p) ⌝ }
+    ensures { λ r. ⌜ (r ≡ length (txText p)) × (r ≤ 20) ⌝ }
 {
     match p {
         PiggybackTx::Absent => 4,
@@ -109,4 +109,14 @@ pub(crate) fn state_len(p: PiggybackState) -> usize
         PiggybackState::Absent => 4,
         PiggybackState::Present(s) => phase_len(s),
     }
+}
+
+// The limits of a packet: at most 64 entries in the bitmap and at most 32 bytes of data.
+pub(crate) fn within(entries: usize, bytes: usize) -> bool
+    ensures { λ r. ⌜ r ≡ limits entries bytes ⌝ }
+{
+    if entries > 64 {
+        return false;
+    }
+    if bytes > 32 { false } else { true }
 }

@@ -156,3 +156,61 @@ pub(crate) fn put_state(buf: &mut [u8], at: usize, p: PiggybackState) -> usize
         PiggybackState::Present(s) => put_phase(buf, at, s),
     }
 }
+
+// ---- each behind the name of its field
+
+pub(crate) fn put_num_field(buf: &mut [u8], at: usize, key: &[u8], n: u64) -> usize
+    requires { ⌜ Room (now buf) at (now key ++ decimal n) ⌝ }
+    ensures { λ r. ⌜ Put (now (buf .entry)) at (now (key .entry) ++ decimal n) r (now (buf .exit)) ⌝ }
+{
+    let o = put_all(buf, at, key);
+    put_decimal(buf, o, n)
+}
+
+pub(crate) fn put_bool_field(buf: &mut [u8], at: usize, key: &[u8], b: bool) -> usize
+    requires { ⌜ Room (now buf) at (now key ++ boolText b) ⌝ }
+    ensures { λ r. ⌜ Put (now (buf .entry)) at (now (key .entry) ++ boolText b) r (now (buf .exit)) ⌝ }
+{
+    let o = put_all(buf, at, key);
+    put_bool(buf, o, b)
+}
+
+pub(crate) fn put_phase_field(buf: &mut [u8], at: usize, key: &[u8], p: TwoPcPhase) -> usize
+    requires { ⌜ Room (now buf) at (now key ++ phaseText p) ⌝ }
+    ensures { λ r. ⌜ Put (now (buf .entry)) at (now (key .entry) ++ phaseText p) r (now (buf .exit)) ⌝ }
+{
+    let o = put_all(buf, at, key);
+    put_phase(buf, o, p)
+}
+
+pub(crate) fn put_bitmap_field(buf: &mut [u8], at: usize, key: &[u8], b: Bitmap) -> usize
+    requires { ⌜ Room (now buf) at (now key ++ bitmapText b) ⌝ }
+    ensures { λ r. ⌜ Put (now (buf .entry)) at (now (key .entry) ++ bitmapText b) r (now (buf .exit)) ⌝ }
+{
+    let o = put_all(buf, at, key);
+    put_bitmap(buf, o, b)
+}
+
+pub(crate) fn put_data_field(buf: &mut [u8], at: usize, key: &[u8], d: Data) -> usize
+    requires { ⌜ (d .len ≤ 32) × Room (now buf) at (now key ++ dataText d) ⌝ }
+    ensures { λ r. ⌜ Put (now (buf .entry)) at (now (key .entry) ++ dataText d) r (now (buf .exit)) ⌝ }
+{
+    let o = put_all(buf, at, key);
+    put_data(buf, o, d)
+}
+
+pub(crate) fn put_tx_field(buf: &mut [u8], at: usize, key: &[u8], p: PiggybackTx) -> usize
+    requires { ⌜ Room (now buf) at (now key ++ txText p) ⌝ }
+    ensures { λ r. ⌜ Put (now (buf .entry)) at (now (key .entry) ++ txText p) r (now (buf .exit)) ⌝ }
+{
+    let o = put_all(buf, at, key);
+    put_tx(buf, o, p)
+}
+
+pub(crate) fn put_state_field(buf: &mut [u8], at: usize, key: &[u8], p: PiggybackState) -> usize
+    requires { ⌜ Room (now buf) at (now key ++ stateText p) ⌝ }
+    ensures { λ r. ⌜ Put (now (buf .entry)) at (now (key .entry) ++ stateText p) r (now (buf .exit)) ⌝ }
+{
+    let o = put_all(buf, at, key);
+    put_state(buf, o, p)
+}

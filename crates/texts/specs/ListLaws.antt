@@ -44,6 +44,46 @@ module _ {A S : Type 0} (rd : Reader A) (store : ℕ → A → S → S) (left re
       unfolding itemsAt on
       items-more m = rw (e, h, c, m)
 
+-- the same for a loop that counts its items: k of at most `most` are read, and the store after this one is st′
+module _ {A S : Type 0} (rd : Reader A) (store : ℕ → A → S → S) (most : ℕ) (s : List ℕ) (i k : ℕ) (st : S) where
+  pub turn-none : most ≤ k → itemsAt rd store (most - k) s i k st ≡ bad
+  unfolding itemsAt
+  turn-none h = let z : most - k ≡ 0 = omega arith in rw z
+
+  module _ (room : k < most) where
+    left : most - k ≡ suc (most - (k + 1))
+    left = omega arith
+
+    pub turn-bad : rd s i ≡ bad → itemsAt rd store (most - k) s i k st ≡ bad
+    turn-bad h = items-bad rd store (most - k) (most - (k + 1)) left s i k st h
+
+    module _ (v : A) (n : ℕ) (h : rd s i ≡ got v n) (st′ : S) (e : st′ ≡ store k v st) where
+      pub turn-last : litAt s n (93 ∷ []) ≡ true → itemsAt rd store (most - k) s i k st ≡ got (k + 1, st′) (n + 1)
+      turn-last c = items-last rd store (most - k) (most - (k + 1)) left s i k st v n h c ∙ ap (λ (x : S). got (k + 1, x) (n + 1)) (sym e)
+
+      module _ (c : litAt s n (93 ∷ []) ≡ false) where
+        pub turn-stop : litAt s n (44 ∷ []) ≡ false → itemsAt rd store (most - k) s i k st ≡ bad
+        turn-stop m = items-stop rd store (most - k) (most - (k + 1)) left s i k st v n h c m
+
+        pub turn-more : litAt s n (44 ∷ []) ≡ true → itemsAt rd store (most - k) s i k st ≡ itemsAt rd store (most - (k + 1)) s (n + 1) (k + 1) st′
+        turn-more m =
+            items-more rd store (most - k) (most - (k + 1)) left s i k st v n h c m
+            ∙ ap (λ (x : S). itemsAt rd store (most - (k + 1)) s (n + 1) (k + 1) x) (sym e)
+
+-- the steps before the loop
+module _ {A S : Type 0} (rd : Reader A) (store : ℕ → A → S → S) (most : ℕ) (empty : S) (s : List ℕ) (at : ℕ) where
+  pub list-shut : litAt s at (91 ∷ []) ≡ false → listAt rd store most empty s at ≡ bad
+  unfolding listAt
+  list-shut h = rw h
+
+  pub list-empty : litAt s at (91 ∷ []) ≡ true → litAt s (at + 1) (93 ∷ []) ≡ true → listAt rd store most empty s at ≡ got (0, empty) (at + 2)
+  unfolding listAt
+  list-empty h k = rw (h, k)
+
+  pub list-open : litAt s at (91 ∷ []) ≡ true → litAt s (at + 1) (93 ∷ []) ≡ false → listAt rd store most empty s at ≡ itemsAt rd store most s (at + 1) 0 empty
+  unfolding listAt
+  list-open h k = rw (h, k)
+
 -- ---- what was read stands there
 module _ {A S : Type 0} {rd : Reader A} {text : A → List ℕ} {May : A → Type 0} (r : Reads rd text May) (store : ℕ → A → S → S) where
   record Items (left : ℕ) (s : List ℕ) (i k : ℕ) (st : S) (w : ℕ × S) (n : ℕ) : Type 0 where

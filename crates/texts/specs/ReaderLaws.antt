@@ -1,7 +1,7 @@
 -- Readers that are right stay right as they are put together: behind a fixed text, one behind the other, in another form, as the whole of a text.
 -- Assumes nothing.
 use mathlib.Core.Path.{_≡_, refl, sym, ap, ap₂, _∙_, subst}
-use mathlib.Core.Bool.{Bool, true, false}
+use mathlib.Core.Bool.{Bool, true, false, _&&_}
 use mathlib.Core.List.{List, [], _∷_, _++_}
 use Prim.Native.Nat.{ℕ, zero, suc, _+_, _≤_, _<_}
 use native.Mathlib.Omega.{arith}
@@ -11,7 +11,7 @@ use borrow.Author.Tests.{eq-eqb, eqb-true}
 use Rattle.loops.specs.Pick.{either}
 use Rattle.texts.specs.Literals.{startsWith, litAt, Has}
 use Rattle.texts.specs.LiteralLaws.{has-as, has-more, has-first, has-next, has-whole, whole-has, lit-has, has-lit}
-use Rattle.texts.specs.Readers.{Found, got, bad, Reader, on, map, behind, both, whole, headDigit, boolText, boolAt, nullText, orNull, Reads}
+use Rattle.texts.specs.Readers.{Found, got, bad, Reader, on, map, behind, both, endsAt, whole, headDigit, boolText, boolAt, nullText, orNull, Reads}
 
 -- nothing found is no value
 pub never : {A : Type 0} {v : A} {n : ℕ} → bad ≡ got v n → ⊥
@@ -176,20 +176,31 @@ module _ {A : Type 0} {rd : Reader A} {text : A → List ℕ} {Some : A → Type
   null-reads = record { sound = null-sound; complete = null-complete }
 
 -- ---- the whole of a text
+and-true : (a b : Bool) → (a && b) ≡ true → (a ≡ true) × (b ≡ true)
+and-true true b h = (refl, h)
+and-true false b h = let z : _≡_ {A = ℕ} 0 1 = cc in absurd (omega arith)
+
+ends-has : (s : List ℕ) (at : ℕ) (t : List ℕ) → endsAt s at t ≡ true → Has s at t (length s)
+unfolding endsAt
+ends-has s at t h =
+    let g = and-true (litAt s at t) (eqb (at + length t) (length s)) h in
+    subst (λ (k : ℕ). Has s at t k) (eqb-true (at + length t) (length s) (g .1)) (lit-has s at t (g .0))
+
+has-ends : {s : List ℕ} {at : ℕ} {t : List ℕ} → Has s at t (length s) → endsAt s at t ≡ true
+unfolding endsAt
+has-ends {s} {at} {t} h = rw (has-lit h) (eq-eqb (at + length t) (length s) (sym (h .place)))
+
 module _ {A : Type 0} {rd : Reader A} {text : A → List ℕ} {May : A → Type 0} (close : List ℕ) (r : Reads rd text May) where
   pub whole-sound : (s : List ℕ) (v : A) (n : ℕ) → whole rd close s ≡ got v n → (s ≡ text v ++ close) × May v
   unfolding whole
   whole-sound s v n h = of (on-got (rd s 0) _ v n h)
     where
-      of : OnGot (rd s 0) (λ w k. either (litAt s k close) (either (eqb (k + length close) (length s)) (got w (length s)) bad) bad) v n → (s ≡ text v ++ close) × May v
+      of : OnGot (rd s 0) (λ w k. either (endsAt s k close) (got w (length s)) bad) v n → (s ≡ text v ++ close) × May v
       of g =
-          let a = either-got (litAt s (g .mid) close) _ v n (g .then) in
-          let b = either-got (eqb (g .mid + length close) (length s)) _ v n (a .1) in
-          let e : g .value ≡ v = got-value (b .1) in
+          let a = either-got (endsAt s (g .mid) close) _ v n (g .then) in
           let q = r .sound s 0 (g .value) (g .mid) (g .first) in
-          let c : Has s (g .mid) close (length s) =
-          subst (λ (k : ℕ). Has s (g .mid) close k) (eqb-true (g .mid + length close) (length s) (b .0)) (lit-has s (g .mid) close (a .0)) in
-          subst (λ (w : A). (s ≡ text w ++ close) × May w) e (whole-has s (text (g .value) ++ close) (has-more (q .0) c), q .1)
+          subst (λ (w : A). (s ≡ text w ++ close) × May w) (got-value (a .1))
+          (whole-has s (text (g .value) ++ close) (has-more (q .0) (ends-has s (g .mid) close (a .0))), q .1)
 
   pub whole-complete : (s : List ℕ) (v : A) → ((x : List ℕ) → headDigit (close ++ x) ≡ false) → May v → s ≡ text v ++ close → whole rd close s ≡ got v (length s)
   unfolding whole on
@@ -199,4 +210,4 @@ module _ {A : Type 0} {rd : Reader A} {text : A → List ℕ} {May : A → Type 
       let hc : Has s k close (length s) = has-next (text v) close h in
       let st : headDigit (drop k s) ≡ false = ap headDigit (hc .here) ∙ stops (drop (length s) s) in
       let ev : rd s 0 ≡ got v k = r .complete s 0 v k (has-first (text v) close h) m st in
-      rw (ev, has-lit hc, eq-eqb (k + length close) (length s) (sym (hc .place)))
+      rw (ev, has-ends hc)

@@ -56,7 +56,7 @@ loop-again c = (omega arith, omega (arith, c .before .before .before .loop .inv,
 
 -- src/len.rt:67:1
 returns : tie.Need-returns Inv-loop μ-loop
-returns c = omega (arith, c .before .loop .inv .2, bytes-len-none (c .before .before .before .args .d .now) (c .before .before .before .args .n) (c .before .loop .i) (c .before .before .before .pre .1) (c .loop-test .left))
+returns c = (omega (arith, c .before .loop .inv .2, bytes-len-none (c .before .before .before .args .d .now) (c .before .before .before .args .n) (c .before .loop .i) (c .before .before .before .pre .1) (c .loop-test .left)), omega (arith, c .before .loop .inv .1, c .before .loop .inv .0))
 
 pub bytes-len-spec : {M : Type 1} → statement M
 bytes-len-spec =

@@ -20,12 +20,12 @@ bytes-len-requires c κs = (omega (arith, c .before .before .before .before .pre
 -- src/len.rt:80:1
 returns : tie.Need-returns
 unfolding dataText
-returns c = sym (list-len-none (c .before .before .before .args .d .bytes) (c .before .before .before .args .d .len) (c .if1 .taken))
+returns c = (sym (list-len-none (c .before .before .before .args .d .bytes) (c .before .before .before .args .d .len) (c .if1 .taken)), omega arith)
 
 -- src/len.rt:80:1
 returns-2 : tie.Need-returns-2
 unfolding dataText
-returns-2 c = c .bytes-len .ensures ∙ sym (list-len-more (c .before .before .before .before .before .args .d .bytes) (c .before .before .before .before .before .args .d .len) (c .before .before .if1 .left) (omega (arith, slice-aggregate-bytes-len (c .before))))
+returns-2 c = (c .bytes-len .ensures .0 ∙ sym (list-len-more (c .before .before .before .before .before .args .d .bytes) (c .before .before .before .before .before .args .d .len) (c .before .before .if1 .left) (omega (arith, slice-aggregate-bytes-len (c .before)))), c .bytes-len .ensures .1)
 
 pub data-len-spec : {M : Type 1} → statement M
 data-len-spec = tie.close (tie.spec slice-aggregate-bytes-len bytes-len-requires returns returns-2)

@@ -32,7 +32,7 @@ loop-again c = omega (arith, c .before .loop .inv, length-step (c .before .loop 
 
 -- src/len.rt:15:1
 returns : tie.Need-returns Inv-loop μ-loop
-returns c = omega (arith, c .before .loop .inv, length-small (c .before .loop .rest) (c .loop-test .left))
+returns c = (omega (arith, c .before .loop .inv, length-small (c .before .loop .rest) (c .loop-test .left)), omega (arith, c .before .loop .inv, length-small (c .before .loop .rest) (c .loop-test .left), decimal-word (c .before .before .args .n) (omega arith)))
 
 pub decimal-len-spec : {M : Type 1} → statement M
 decimal-len-spec =
