@@ -2,3 +2,5 @@ pub mod Texts
 pub mod Founds
 pub mod Words
 pub mod Writes
+pub mod Halves
+pub mod Bitmaps

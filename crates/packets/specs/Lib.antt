@@ -1,3 +1,5 @@
 pub mod Packets
 pub mod Reading
 pub mod Writing
+pub mod Votes
+pub mod Merging
