@@ -4,3 +4,4 @@ pub mod Words
 pub mod Writes
 pub mod Halves
 pub mod Bitmaps
+pub mod Proposals

@@ -187,11 +187,13 @@ goalOf l = ltb 1 (standingOf l)
 unfoldable pub canSleepOf : ℕ → Payload → Bool
 canSleepOf n l = goalOf l && unanimousOf n (l .packet .«flags_bitmap»)
 
+-- what an array gives past its end: nothing
 abbrev pub nobody : Payload
-nobody = record {
-  held = Empty;
-  packet = record { term = 0; phase = Prepare; «proposal_data» = record { len = 0; bytes = replicate 32 0 }; «flags_bitmap» = record { len = 0; marks = 0 } };
-}
+nobody =
+    record {
+      held = Empty;
+      packet = record { term = 0; phase = Prepare; «proposal_data» = record { len = 0; bytes = [] }; «flags_bitmap» = record { len = 0; marks = 0 } };
+    }
 
 -- the first n of 64 positions, of which there is one or more, all hold phase k - 1
 unfoldable pub allHold : ℕ → ℕ → List Payload → Bool

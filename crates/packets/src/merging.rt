@@ -342,3 +342,109 @@ pub fn merge(voting: Voting, local: Payload, received: Payload, node_id: usize) 
         Held::Packet => hear(voting, local, p, node_id),
     }
 }
+
+// The new packet's data: "tx" and the term in decimal, 22 bytes at most.
+fn proposal_data(term: u64) -> Data
+    ensures { λ r. ⌜ r ≡ proposalData term ⌝ }
+{
+    let mut bytes = [0u8; 32];
+    let o = put::put_all(&mut bytes, 0, b"tx");
+    let next = put::put_decimal(&mut bytes, o, term);
+    Data { len: next, bytes }
+}
+
+fn blank_packet(n: usize, term: u64) -> CeTwoPcPacket
+    ensures { λ r. ⌜ r ≡ blank n term ⌝ }
+{
+    let proposal_data = proposal_data(term);
+    let flags_bitmap = Bitmap { len: n, marks: 0 };
+    CeTwoPcPacket {
+        term,
+        phase: TwoPcPhase::Prepare,
+        proposal_data,
+        flags_bitmap,
+    }
+}
+
+// The packet of the term after `term`, with the initiator's own vote. That there is such a term, and that the initiator is one of
+// the positions, is for the room to say.
+pub fn init_proposal(voting: Voting, term: u64, initiator: usize) -> CeTwoPcPacket
+    ensures { λ r. ⌜ r ≡ proposalOf (noOf voting) (voting .n) initiator term ⌝ }
+{
+    let next = std::num::wrapping_add_u64(term, 1);
+    adopt_with_local_vote(voting, blank_packet(voting.n, next), initiator)
+}
+
+fn standing(payload: Payload) -> u64
+    ensures { λ r. ⌜ r ≡ standingOf payload ⌝ }
+{
+    let k = payload.held;
+    let p = payload.packet;
+    let phase = p.phase;
+    match k {
+        Held::Empty => 0,
+        Held::Unreadable => 0,
+        Held::Packet => match phase {
+            TwoPcPhase::Prepare => 1,
+            TwoPcPhase::Committed => 2,
+            TwoPcPhase::Aborted => 3,
+        },
+    }
+}
+
+pub fn node_goal_reached(payload: Payload) -> bool
+    ensures { λ r. ⌜ r ≡ goalOf payload ⌝ }
+{
+    1 < standing(payload)
+}
+
+pub fn node_can_sleep(n: usize, payload: Payload) -> bool
+    ensures { λ r. ⌜ r ≡ canSleepOf n payload ⌝ }
+{
+    if !node_goal_reached(payload) {
+        return false;
+    }
+    let p = payload.packet;
+    let b = p.flags_bitmap;
+    has_unanimity(n, b)
+}
+
+// Every one of the first n positions stands at k, and there is one at least.
+fn all_stand(payloads: [Payload; 64], n: usize, k: u64) -> bool
+    ensures { λ r. ⌜ r ≡ allHold n k payloads ⌝ }
+{
+    if n == 0 {
+        return false;
+    }
+    if n > 64 {
+        return false;
+    }
+    let mut i = 0;
+    while i < n {
+        let payload = payloads[i];
+        if standing(payload) != k {
+            return false;
+        }
+        i += 1;
+    }
+    true
+}
+
+pub fn network_goal_reached(payloads: [Payload; 64], n: usize) -> bool
+    ensures { λ r. ⌜ r ≡ networkGoalOf n payloads ⌝ }
+{
+    if all_stand(payloads, n, 2) {
+        return true;
+    }
+    all_stand(payloads, n, 3)
+}
+
+// What is not committed everywhere by the deadline is aborted.
+pub fn proposal_outcome(payloads: [Payload; 64], n: usize) -> ProposalOutcome
+    ensures { λ r. ⌜ r ≡ outcomeOf n payloads ⌝ }
+{
+    if all_stand(payloads, n, 2) {
+        return ProposalOutcome::Committed;
+    }
+    ProposalOutcome::Aborted
+}
