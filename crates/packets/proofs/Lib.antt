@@ -5,3 +5,6 @@ pub mod Writes
 pub mod Halves
 pub mod Bitmaps
 pub mod Proposals
+pub mod Safety
+pub mod Growth
+pub mod Late

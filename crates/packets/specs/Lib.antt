@@ -3,3 +3,5 @@ pub mod Reading
 pub mod Writing
 pub mod Votes
 pub mod Merging
+pub mod Sound
+pub mod Late
