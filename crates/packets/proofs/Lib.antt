@@ -8,3 +8,5 @@ pub mod Proposals
 pub mod Safety
 pub mod Growth
 pub mod Late
+pub mod MergeCases
+pub mod Marking

@@ -5,3 +5,4 @@ pub mod Votes
 pub mod Merging
 pub mod Sound
 pub mod Late
+pub mod MergeCases

@@ -1,10 +1,12 @@
 -- What a packet may claim of the votes of its term, and what merging keeps: the laws on which demand 3's agreement rests.
--- Assumes nothing: these are definitions and statements. They are proved in proofs/Safety.antt and proofs/Growth.antt.
+-- Assumes nothing: these are definitions and statements. They are proved in Safety, Growth, Marking and Limits of proofs/.
 use mathlib.Core.Path.{_≡_}
 use mathlib.Core.Bool.{Bool, true, false, not, _&&_, _||_}
+use mathlib.Core.Logic.{_⊎_}
 use Prim.Native.Nat.{ℕ, _<_, _≤_}
 use lib.Dec.{ltb, eqb}
 use Rattle.marks.specs.Marks.{has}
+use Rattle.packets.specs.Packets.{ValidCe}
 use Rattle.packets.specs.Votes.{add64}
 use Rattle.packets.specs.Merging.{Noes, entry, rankOf, withState, adoptedOf, sameTermOf, newInfo, mergeOf, proposalOf}
 use Rattle.packets.specs.declared.TwoPcPhase.{TwoPcPhase}
@@ -91,3 +93,36 @@ RedundantKeeps = (nay : Noes) (n v : ℕ) (l r : Payload) → mergeOf nay n v l 
 
 abbrev pub ProposalTerm : Type 0
 ProposalTerm = (nay : Noes) (n v t : ℕ) → proposalOf nay n v t .term ≡ add64 t 1
+
+-- ---- marks
+
+-- the packet that a merge leaves
+abbrev pub leaves : Noes → ℕ → ℕ → Payload → Payload → CeTwoPcPacket
+leaves nay n v l r = mergeOf nay n v l r .payload .packet
+
+-- a merge invents no mark but the own: each stood in what was held or in what was received
+abbrev pub MarksFrom : Type 0
+MarksFrom =
+    (nay : Noes) (n v : ℕ) (l r : Payload) (i : ℕ) → entry (leaves nay n v l r .«flags_bitmap») i ≡ true
+    → (entry (l .packet .«flags_bitmap») i ≡ true) ⊎ ((entry (r .packet .«flags_bitmap») i ≡ true) ⊎ (i ≡ v))
+
+-- what was news has the own mark
+abbrev pub OwnMark : Type 0
+OwnMark =
+    (nay : Noes) (n v : ℕ) (l r : Payload) → v < n → n ≤ 64 → mergeOf nay n v l r .result ≡ NewInfo
+    → entry (leaves nay n v l r .«flags_bitmap») v ≡ true
+
+-- ---- limits: what is within them, with nothing behind its lengths, merges to what is so too
+abbrev pub ValidBy : CeTwoPcPacket → Held → Type 0
+ValidBy p Empty = Unit {0}
+ValidBy p Unreadable = Unit {0}
+ValidBy p Packet = ValidCe p
+
+abbrev pub ValidHeld : Payload → Type 0
+ValidHeld l = ValidBy (l .packet) (l .held)
+
+abbrev pub MergesValid : Type 0
+MergesValid = (nay : Noes) (n v : ℕ) (l r : Payload) → n ≤ 64 → ValidHeld l → ValidHeld r → ValidHeld (mergeOf nay n v l r .payload)
+
+abbrev pub ProposesValid : Type 0
+ProposesValid = (nay : Noes) (n v t : ℕ) → n ≤ 64 → ValidCe (proposalOf nay n v t)
