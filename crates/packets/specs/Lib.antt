@@ -1,3 +1,6 @@
 pub mod Packets
 pub mod Reading
 pub mod Writing
+pub mod Values
+pub mod Promises
+pub mod Console
