@@ -10,3 +10,6 @@ pub mod Growth
 pub mod Late
 pub mod MergeCases
 pub mod Marking
+pub mod Parts
+pub mod Promises
+pub mod Asked

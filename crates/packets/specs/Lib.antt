@@ -6,3 +6,6 @@ pub mod Merging
 pub mod Sound
 pub mod Late
 pub mod MergeCases
+pub mod Values
+pub mod Promises
+pub mod Console

@@ -86,7 +86,7 @@ pub fn write_ce_packet(buf: &mut [u8], at: usize, p: CeTwoPcPacket) -> Wrote
 }
 
 // The answer to a refused text: no packet, in the place of one a packet of zeros.
-fn no_ce(refusal: u64) -> CeRead
+pub(crate) fn no_ce(refusal: u64) -> CeRead
     ensures { λ r. ⌜ r ≡ ceNo refusal ⌝ }
 {
     let none = Bitmap { len: 0, marks: 0 };
