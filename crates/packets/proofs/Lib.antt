@@ -1,0 +1,15 @@
+pub mod Texts
+pub mod Founds
+pub mod Words
+pub mod Writes
+pub mod Halves
+pub mod Bitmaps
+pub mod Proposals
+pub mod Safety
+pub mod Growth
+pub mod Late
+pub mod MergeCases
+pub mod Marking
+pub mod Parts
+pub mod Promises
+pub mod Asked

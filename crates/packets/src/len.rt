@@ -1,0 +1,122 @@
+// How long the texts of a packet's parts are, without writing them.
+use crate::Bitmap;
+use crate::Data;
+use crate::PiggybackState;
+use crate::PiggybackTx;
+use crate::TwoPcPhase;
+ghost use mathlib.Core.Path.{_≡_};
+ghost use Prim.Native.Nat.{_≤_};
+ghost use lib.ListN.{length, take};
+ghost use Rattle.texts.specs.Decimal.{decimal};
+ghost use Rattle.marks.specs.Marks.{marksOf};
+ghost use Rattle.texts.specs.Readers.{boolText, itemsText};
+ghost use Rattle.packets.specs.Packets.{limits, phaseText, bitmapText, dataText, txText, stateText};
+
+pub(crate) fn decimal_len(n: u64) -> usize
+    ensures { λ r. ⌜ (r ≡ length (decimal n)) × (r ≤ 20) ⌝ }
+{
+    let mut rest = n;
+    let mut len = 1;
+    while 10 <= rest {
+        rest = rest / 10;
+        len += 1;
+    }
+    len
+}
+
+pub(crate) fn bool_len(b: bool) -> usize
+    ensures { λ r. ⌜ r ≡ length (boolText b) ⌝ }
+{
+    if b { 4 } else { 5 }
+}
+
+pub(crate) fn phase_len(p: TwoPcPhase) -> usize
+    ensures { λ r. ⌜ r ≡ length (phaseText p) ⌝ }
+{
+    match p {
+        TwoPcPhase::Prepare => 9,
+        TwoPcPhase::Committed => 11,
+        TwoPcPhase::Aborted => 9,
+    }
+}
+
+// An entry and what stands before it are 5 bytes for true and 6 for false, and the closing bracket is 1.
+fn marks_len(m: u64, n: usize) -> usize
+    requires { ⌜ n ≤ 64 ⌝ }
+    ensures { λ r. ⌜ r ≡ length (itemsText boolText (marksOf m n)) ⌝ }
+{
+    let mut len = 1;
+    let mut rest = m;
+    let mut left = n;
+    while 0 < left {
+        len = len + 6 - (rest % 2) as usize;
+        rest = rest / 2;
+        left -= 1;
+    }
+    len
+}
+
+pub(crate) fn bitmap_len(b: Bitmap) -> usize
+    requires { ⌜ b .len ≤ 64 ⌝ }
+    ensures { λ r. ⌜ r ≡ length (bitmapText b) ⌝ }
+{
+    if b.len == 0 {
+        2
+    } else {
+        marks_len(b.marks, b.len)
+    }
+}
+
+// A byte and what stands before it.
+fn bytes_len(d: &[u8], n: usize) -> usize
+    requires { ⌜ (n ≤ 32) × (n ≤ length (now d)) ⌝ }
+    ensures { λ r. ⌜ (r ≡ length (itemsText decimal (take n (now (d .entry))))) × (r ≤ 673) ⌝ }
+{
+    let mut len = 1;
+    let mut i = 0;
+    while i < n {
+        len = len + 1 + decimal_len(d[i] as u64);
+        i += 1;
+    }
+    len
+}
+
+pub(crate) fn data_len(d: Data) -> usize
+    requires { ⌜ d .len ≤ 32 ⌝ }
+    ensures { λ r. ⌜ (r ≡ length (dataText d)) × (r ≤ 673) ⌝ }
+{
+    let bytes = d.bytes;
+    if d.len == 0 {
+        2
+    } else {
+        bytes_len(&bytes, d.len)
+    }
+}
+
+pub(crate) fn tx_len(p: PiggybackTx) -> usize
+    ensures { λ r. ⌜ (r ≡ length (txText p)) × (r ≤ 20) ⌝ }
+{
+    match p {
+        PiggybackTx::Absent => 4,
+        PiggybackTx::Present(n) => decimal_len(n),
+    }
+}
+
+pub(crate) fn state_len(p: PiggybackState) -> usize
+    ensures { λ r. ⌜ r ≡ length (stateText p) ⌝ }
+{
+    match p {
+        PiggybackState::Absent => 4,
+        PiggybackState::Present(s) => phase_len(s),
+    }
+}
+
+// The limits of a packet: at most 64 entries in the bitmap and at most 32 bytes of data.
+pub(crate) fn within(entries: usize, bytes: usize) -> bool
+    ensures { λ r. ⌜ r ≡ limits entries bytes ⌝ }
+{
+    if entries > 64 {
+        return false;
+    }
+    if bytes > 32 { false } else { true }
+}

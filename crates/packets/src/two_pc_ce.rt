@@ -1,0 +1,155 @@
+// The text of the capture rooms' packets: the packet half of two_pc_ce.rs.
+use crate::Bitmap;
+use crate::CeRead;
+use crate::CeTwoPcPacket;
+use crate::Data;
+use crate::TwoPcPhase;
+use crate::Wrote;
+use crate::len;
+use crate::put;
+use crate::read;
+use crate::read::BitmapRead;
+use crate::read::NumRead;
+use crate::read::PhaseRead;
+ghost use mathlib.Core.Path.{_≡_};
+ghost use Prim.Native.Nat.{_≤_};
+ghost use lib.ListN.{length};
+ghost use Rattle.texts.specs.Put.{Put, Room};
+ghost use Rattle.packets.specs.Packets.{ceText, ceWithin};
+ghost use Rattle.packets.specs.Writing.{textLen, wroteOf, leftOf};
+ghost use Rattle.packets.specs.Reading.{ceNo, ceReadOf, ceRead};
+
+// The names, braces, commas and colons are 51 bytes.
+fn ce_len(p: CeTwoPcPacket) -> usize
+    requires { ⌜ (p .«flags_bitmap» .len ≤ 64) × (p .«proposal_data» .len ≤ 32) ⌝ }
+    ensures { λ r. ⌜ r ≡ length (ceText p) ⌝ }
+{
+    let phase = p.phase;
+    let proposal_data = p.proposal_data;
+    let flags_bitmap = p.flags_bitmap;
+    51
+        + len::decimal_len(p.term)
+        + len::phase_len(phase)
+        + len::data_len(proposal_data)
+        + len::bitmap_len(flags_bitmap)
+}
+
+// The length of a packet's text, 0 for a packet outside the limits, which has none.
+pub fn ce_text_len(p: CeTwoPcPacket) -> usize
+    ensures { λ r. ⌜ r ≡ textLen (ceWithin p) (ceText p) ⌝ }
+{
+    if !len::within(p.flags_bitmap.len, p.proposal_data.len) {
+        return 0;
+    }
+    ce_len(p)
+}
+
+fn put_ce(buf: &mut [u8], at: usize, p: CeTwoPcPacket) -> usize
+    requires { ⌜ (p .«proposal_data» .len ≤ 32) × Room (now buf) at (ceText p) ⌝ }
+    ensures { λ r. ⌜ Put (now (buf .entry)) at (ceText p) r (now (buf .exit)) ⌝ }
+{
+    let phase = p.phase;
+    let proposal_data = p.proposal_data;
+    let flags_bitmap = p.flags_bitmap;
+    let o1 = put::put_num_field(buf, at, b"{\"term\":", p.term);
+    let o2 = put::put_phase_field(buf, o1, b",\"phase\":", phase);
+    let o3 = put::put_data_field(buf, o2, b",\"proposal_data\":", proposal_data);
+    let o4 = put::put_bitmap_field(buf, o3, b",\"flags_bitmap\":", flags_bitmap);
+    put::put_byte(buf, o4, b'}')
+}
+
+// Writes a packet's text from index at on: refusal 9 outside the limits, 10 where it does not fit, and then the buffer is as it was.
+pub fn write_ce_packet(buf: &mut [u8], at: usize, p: CeTwoPcPacket) -> Wrote
+    ensures { λ r. ⌜ r ≡ wroteOf (ceWithin p) (ceText p) (now (buf .entry)) at ⌝ }
+    ensures { λ _. ⌜ now (buf .exit) ≡ leftOf (ceWithin p) (ceText p) (now (buf .entry)) at ⌝ }
+{
+    if !len::within(p.flags_bitmap.len, p.proposal_data.len) {
+        return Wrote {
+            refusal: 9,
+            next: 0,
+        };
+    }
+    if at > buf.len() {
+        return Wrote {
+            refusal: 10,
+            next: 0,
+        };
+    }
+    if ce_len(p) > buf.len() - at {
+        return Wrote {
+            refusal: 10,
+            next: 0,
+        };
+    }
+    let next = put_ce(buf, at, p);
+    Wrote { refusal: 0, next }
+}
+
+// The answer to a refused text: no packet, in the place of one a packet of zeros.
+pub(crate) fn no_ce(refusal: u64) -> CeRead
+    ensures { λ r. ⌜ r ≡ ceNo refusal ⌝ }
+{
+    let none = Bitmap { len: 0, marks: 0 };
+    let zeros = Data {
+        len: 0,
+        bytes: [0u8; 32],
+    };
+    let packet = CeTwoPcPacket {
+        term: 0,
+        phase: TwoPcPhase::Prepare,
+        proposal_data: zeros,
+        flags_bitmap: none,
+    };
+    CeRead { refusal, packet }
+}
+
+fn read_ce(s: &[u8]) -> CeRead
+    ensures { λ r. ⌜ r ≡ ceReadOf (now (s .entry)) ⌝ }
+{
+    let NumRead::Got {
+        value: term,
+        next: o1,
+    } = read::num_field(s, 0, b"{\"term\":")
+    else {
+        return no_ce(9);
+    };
+    let PhaseRead::Got {
+        phase: phase,
+        next: o2,
+    } = read::phase_field(s, o1, b",\"phase\":")
+    else {
+        return no_ce(9);
+    };
+    let d = read::data_field(s, o2, b",\"proposal_data\":");
+    if !d.ok {
+        return no_ce(9);
+    }
+    let proposal_data = d.found;
+    let BitmapRead::Got {
+        bitmap: flags_bitmap,
+        next: o4,
+    } = read::bitmap_field(s, d.next, b",\"flags_bitmap\":")
+    else {
+        return no_ce(9);
+    };
+    if !read::ends_at(s, o4) {
+        return no_ce(9);
+    }
+    let packet = CeTwoPcPacket {
+        term,
+        phase,
+        proposal_data,
+        flags_bitmap,
+    };
+    CeRead { refusal: 0, packet }
+}
+
+// Reads the packet whose text the first len bytes of s are: refusal 10 if s has fewer, 9 for any other text.
+pub fn read_ce_packet(s: &[u8], len: usize) -> CeRead
+    ensures { λ r. ⌜ r ≡ ceRead (now (s .entry)) len ⌝ }
+{
+    if len > s.len() {
+        return no_ce(10);
+    }
+    read_ce(&s[..len])
+}
