@@ -1,4 +1,5 @@
 // The text of both packet families: written into a lent buffer, measured, and read. The forms are those of two_pc_ce.rs and two_pc_pipeline.rs.
+pub mod asking;
 pub mod console;
 mod len;
 pub mod merging;
