@@ -22,7 +22,7 @@ type Part = (&'static str, Option<fn(&Options) -> Tally>);
 
 fn parts() -> Vec<Part> {
     #[allow(unused_mut, clippy::vec_init_then_push)]
-    let mut all: Vec<Part> = vec![("graph", None), ("packets", None)];
+    let mut all: Vec<Part> = vec![("graph", None), ("packets", None), ("merge", None)];
     #[cfg(feature = "graph")]
     {
         all[0].1 = Some(graph::run);
@@ -30,6 +30,7 @@ fn parts() -> Vec<Part> {
     #[cfg(feature = "packets")]
     {
         all[1].1 = Some(packets::run);
+        all[2].1 = Some(merges::run);
     }
     all
 }
