@@ -13,3 +13,4 @@ pub mod Marking
 pub mod Parts
 pub mod Promises
 pub mod Asked
+pub mod Desks

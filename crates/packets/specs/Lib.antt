@@ -9,3 +9,4 @@ pub mod MergeCases
 pub mod Values
 pub mod Promises
 pub mod Console
+pub mod Desk
