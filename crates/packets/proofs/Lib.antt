@@ -9,7 +9,9 @@ pub mod Safety
 pub mod Growth
 pub mod Late
 pub mod MergeCases
+pub mod Kept
 pub mod Marking
+pub mod Limits
 pub mod Parts
 pub mod Promises
 pub mod Asked
