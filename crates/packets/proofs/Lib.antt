@@ -9,8 +9,11 @@ pub mod Safety
 pub mod Growth
 pub mod Late
 pub mod MergeCases
+pub mod Kept
 pub mod Marking
+pub mod Limits
 pub mod Parts
 pub mod Promises
 pub mod Asked
 pub mod Proposing
+pub mod Desks

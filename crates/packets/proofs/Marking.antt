@@ -51,97 +51,44 @@ use Rattle.packets.specs.declared.merging.Payload.{Payload}
 use Rattle.packets.specs.declared.merging.Merged.{Merged}
 use Rattle.packets.specs.declared.merging.Draft.{Draft}
 use Rattle.packets.proofs.Bitmaps.{has-word}
+use Rattle.packets.proofs.Kept.{merge-keeps}
 use Rattle.packets.proofs.Safety.{either-cases, filled-entry, marked-entry, only-entry, join-entry}
 
--- ---- a property P of positions that the own one has: bitmaps whose marks all have it
-module _ (P : ℕ → Type 0) (v : ℕ) (own : P v) where
+-- ---- a property P of positions that the own one has: packets whose marks all have it
+module _ (P : ℕ → Type 0) (v : ℕ) (own : P v) (n : ℕ) where
   abbrev From : CeTwoPcPacket → Type 0
   From p = (i : ℕ) → entry (p .«flags_bitmap») i ≡ true → P i
 
-  only-from : (n i : ℕ) → entry (onlyOf n v) i ≡ true → P i
-  only-from n i h = rw (only-entry n v i h) own
+  ensure-from : (p : CeTwoPcPacket) → From p → From (ensureOf n p)
+  unfolding ensureOf
+  ensure-from p s = λ i h. s i (filled-entry n (p .«flags_bitmap») i h)
 
-  module _ (nay : Noes) (n : ℕ) where
-    ensure-from : (p : CeTwoPcPacket) → From p → From (ensureOf n p)
-    unfolding ensureOf
-    ensure-from p s = λ i h. s i (filled-entry n (p .«flags_bitmap») i h)
+  acknowledged-from : (p : CeTwoPcPacket) → From p → From (acknowledgedOf v p)
+  unfolding acknowledgedOf
+  acknowledged-from p s = λ i h. marked-entry v (p .«flags_bitmap») i h (s i) (λ e. rw e own)
 
-    acknowledged-from : (p : CeTwoPcPacket) → From p → From (acknowledgedOf v p)
-    unfolding acknowledgedOf
-    acknowledged-from p s = λ i h. marked-entry v (p .«flags_bitmap») i h (s i) (λ e. rw e own)
+  decided-from : (f : TwoPcPhase) (p : CeTwoPcPacket) → From p → From (decidedOf f n v p)
+  unfolding decidedOf
+  decided-from f p s = λ i h. rw (only-entry n v i h) own
 
-    decided-from : (f : TwoPcPhase) (p : CeTwoPcPacket) → From (decidedOf f n v p)
-    unfolding decidedOf
-    decided-from f p = only-from n
-
-    voiced-from : (p : CeTwoPcPacket) (f : TwoPcPhase) → From p → From (voicedOf nay n v p f)
-    unfolding voicedOf
-    voiced-from p Prepare s = either-cases From (nay (p .term) v) (λ x. decided-from Aborted p) (λ x. acknowledged-from p s)
-    voiced-from p Committed s = acknowledged-from p s
-    voiced-from p Aborted s = acknowledged-from p s
-
-    settled-from : (d : Draft) (f : TwoPcPhase) → From (d .packet) → From (settledOf n v d f .packet)
-    unfolding settledOf
-    settled-from d Prepare s =
-        either-cases (λ (c : Draft). From (c .packet)) (unanimousOf n (d .packet .«flags_bitmap»)) (λ x. decided-from Committed (d .packet)) (λ x. s)
-    settled-from d Committed s = s
-    settled-from d Aborted s = s
-
-    adopted-from : (p : CeTwoPcPacket) → From p → From (adoptedOf nay n v p)
-    unfolding adoptedOf
-    adopted-from p s =
-        let d : Draft = record { packet = voicedOf nay n v (ensureOf n p) (ensureOf n p .phase); news = true } in
-        settled-from d (d .packet .phase) (voiced-from (ensureOf n p) (ensureOf n p .phase) (ensure-from p s))
-
-    raised-from : (l r : CeTwoPcPacket) → From l → From r → From (raisedOf n l r .packet)
-    unfolding raisedOf
-    raised-from l r s q =
-        either-cases (λ (d : Draft). From (d .packet)) (ltb (rankOf (l .phase)) (rankOf (r .phase)))
-        (λ x. q)
-        (λ x. either-cases (λ (d : Draft). From (d .packet)) (eqb (rankOf (l .phase)) (rankOf (r .phase)))
-        (λ y i h. join-entry n (l .«flags_bitmap») (r .«flags_bitmap») i h (s i) (q i))
-        (λ y. s))
-
-    own-from : (d : Draft) → From (d .packet) → From (ownOf nay n v d .packet)
-    unfolding ownOf
-    own-from d s =
-        either-cases (λ (c : Draft). From (c .packet)) (ltb v (d .packet .«flags_bitmap» .len))
-        (λ x. either-cases (λ (c : Draft). From (c .packet)) (has (d .packet .«flags_bitmap» .marks) v)
-        (λ y. s)
-        (λ y. voiced-from (d .packet) (d .packet .phase) s))
-        (λ x. s)
-
-    same-from : (l r : CeTwoPcPacket) → From l → From r → From (sameTermOf nay n v l r .packet)
-    unfolding sameTermOf
-    same-from l r s q =
-        let m = raisedOf n (ensureOf n l) (ensureOf n r) in
-        let d = ownOf nay n v m in
-        settled-from d (d .packet .phase) (own-from m (raised-from (ensureOf n l) (ensureOf n r) (ensure-from l s) (ensure-from r q)))
-
-    heard-from : (l : Payload) (p : CeTwoPcPacket) (h : Held) → From (l .packet) → From p → From (heardOf nay n v l p h .payload .packet)
-    unfolding heardOf
-    heard-from l p Empty s q = adopted-from p q
-    heard-from l p Unreadable s q = s
-    heard-from l p Packet s q =
-        either-cases (λ (m : Merged). From (m .payload .packet)) (ltb (l .packet .term) (p .term))
-        (λ x. adopted-from p q)
-        (λ x. either-cases (λ (m : Merged). From (m .payload .packet)) (ltb (p .term) (l .packet .term))
-        (λ y. s)
-        (λ y. either-cases (λ (m : Merged). From (m .payload .packet)) (sameTermOf nay n v (l .packet) p .news)
-        (λ z. same-from (l .packet) p s q)
-        (λ z. s)))
-
-    merged-from : (l : Payload) (p : CeTwoPcPacket) (h : Held) → From (l .packet) → From p → From (mergedBy nay n v l p h .payload .packet)
-    unfolding mergedBy
-    merged-from l p Empty s q = s
-    merged-from l p Unreadable s q = s
-    merged-from l p Packet s q = heard-from l p (l .held) s q
+  raised-from : (l r : CeTwoPcPacket) → From l → From r → From (raisedOf n l r .packet)
+  unfolding raisedOf
+  raised-from l r s q =
+      either-cases (λ (d : Draft). From (d .packet)) (ltb (rankOf (l .phase)) (rankOf (r .phase)))
+      (λ x. q)
+      (λ x. either-cases (λ (d : Draft). From (d .packet)) (eqb (rankOf (l .phase)) (rankOf (r .phase)))
+      (λ y i h. join-entry n (l .«flags_bitmap») (r .«flags_bitmap») i h (s i) (q i))
+      (λ y. s))
 
 pub marks-from : MarksFrom
-unfolding mergeOf
-marks-from nay n v l r i h =
-    merged-from (λ j. (entry (l .packet .«flags_bitmap») j ≡ true) ⊎ ((entry (r .packet .«flags_bitmap») j ≡ true) ⊎ (j ≡ v))) v (inr (inr refl)) nay n
-    l (r .packet) (r .held) (λ j e. inl e) (λ j e. inr (inl e)) i h
+marks-from nay n v l r k i h =
+    let P : ℕ → Type 0 = λ j. (entry (l .packet .«flags_bitmap») j ≡ true) ⊎ ((entry (r .packet .«flags_bitmap») j ≡ true) ⊎ (j ≡ v)) in
+    merge-keeps (From P v (inr (inr refl)) n) nay n v
+    (ensure-from P v (inr (inr refl)) n)
+    (acknowledged-from P v (inr (inr refl)) n)
+    (decided-from P v (inr (inr refl)) n)
+    (raised-from P v (inr (inr refl)) n)
+    l r (λ e j x. inl x) (λ e j x. inr (inl x)) k i h
 
 -- ---- the own mark
 module _ (nay : Noes) (n v : ℕ) (inside : v < n) (few : n ≤ 64) where

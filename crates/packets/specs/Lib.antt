@@ -10,3 +10,4 @@ pub mod Values
 pub mod Promises
 pub mod Console
 pub mod Asking
+pub mod Desk

@@ -103,7 +103,7 @@ leaves nay n v l r = mergeOf nay n v l r .payload .packet
 -- a merge invents no mark but the own: each stood in what was held or in what was received
 abbrev pub MarksFrom : Type 0
 MarksFrom =
-    (nay : Noes) (n v : ℕ) (l r : Payload) (i : ℕ) → entry (leaves nay n v l r .«flags_bitmap») i ≡ true
+    (nay : Noes) (n v : ℕ) (l r : Payload) → mergeOf nay n v l r .payload .held ≡ Packet → (i : ℕ) → entry (leaves nay n v l r .«flags_bitmap») i ≡ true
     → (entry (l .packet .«flags_bitmap») i ≡ true) ⊎ ((entry (r .packet .«flags_bitmap») i ≡ true) ⊎ (i ≡ v))
 
 -- what was news has the own mark
@@ -113,13 +113,8 @@ OwnMark =
     → entry (leaves nay n v l r .«flags_bitmap») v ≡ true
 
 -- ---- limits: what is within them, with nothing behind its lengths, merges to what is so too
-abbrev pub ValidBy : CeTwoPcPacket → Held → Type 0
-ValidBy p Empty = Unit {0}
-ValidBy p Unreadable = Unit {0}
-ValidBy p Packet = ValidCe p
-
 abbrev pub ValidHeld : Payload → Type 0
-ValidHeld l = ValidBy (l .packet) (l .held)
+ValidHeld l = l .held ≡ Packet → ValidCe (l .packet)
 
 abbrev pub MergesValid : Type 0
 MergesValid = (nay : Noes) (n v : ℕ) (l r : Payload) → n ≤ 64 → ValidHeld l → ValidHeld r → ValidHeld (mergeOf nay n v l r .payload)

@@ -1,6 +1,7 @@
 // The text of both packet families: written into a lent buffer, measured, and read. The forms are those of two_pc_ce.rs and two_pc_pipeline.rs.
 pub mod asking;
 pub mod console;
+pub mod desk;
 mod len;
 pub mod merging;
 mod put;

@@ -1,0 +1,80 @@
+-- The merge on lent texts, by 01, "Votes and packets" and refusals 2, 8 and 10: the reader, the merge of packets and the writer, in that order.
+-- Assumes nothing: these are definitions and statements. The statements are proved in proofs/Desks.antt.
+use mathlib.Core.Path.{_≡_}
+use mathlib.Core.Bool.{Bool, true, false, _&&_}
+use mathlib.Core.List.{List}
+use Prim.Native.Nat.{ℕ}
+use lib.Dec.{leb, ltb, eqb}
+use lib.Ieee.{Float}
+use lib.ListN.{length}
+use Rattle.loops.specs.Pick.{either}
+use Rattle.packets.specs.Packets.{ceText, ceWithin}
+use Rattle.packets.specs.Reading.{ceRead}
+use Rattle.packets.specs.Writing.{wroteOf, leftOf}
+use Rattle.packets.specs.Votes.{noOf}
+use Rattle.packets.specs.Merging.{mergeOf}
+use Rattle.packets.specs.declared.CeTwoPcPacket.{CeTwoPcPacket}
+use Rattle.packets.specs.declared.CeRead.{CeRead}
+use Rattle.packets.specs.declared.votes.Voting.{Voting}
+use Rattle.packets.specs.declared.merging.MergeResult.{MergeResult}
+use Rattle.packets.specs.declared.merging.MergeResult.the-variants.{Redundant, NewInfo}
+use Rattle.packets.specs.declared.merging.Held.{Held}
+use Rattle.packets.specs.declared.merging.Held.the-variants.{Empty, Unreadable, Packet}
+use Rattle.packets.specs.declared.merging.Payload.{Payload}
+use Rattle.packets.specs.declared.merging.Merged.{Merged}
+
+-- what the first len bytes of a buffer are: nothing, a packet's text, or no packet's
+abbrev pub readAs : ℕ → CeRead → Payload
+readAs len r = record { held = either (eqb len 0) Empty (either (eqb (r .refusal) 0) Packet Unreadable); packet = r .packet }
+
+unfoldable pub payloadOf : List ℕ → ℕ → Payload
+payloadOf s len = readAs len (ceRead s len)
+
+-- 2 for n outside 1 to 64, then 8 for a position that is none of them, then 10 for a stated length over its buffer; 0 for none
+unfoldable pub refusalOf : ℕ → ℕ → ℕ → ℕ → ℕ → ℕ → ℕ
+refusalOf n v cap len rcap rlen =
+    either (ltb 0 n && leb n 64) (either (ltb v n) (either (leb len cap) (either (leb rlen rcap) 0 10) 10) 8) 2
+
+-- all that a call hands back: the refusal, and the local buffer, its stated length and the number that says whether there was news, as they are afterwards
+pub record Desk : Type 0 where
+  pub refusal : ℕ
+  pub text : List ℕ
+  pub len : ℕ
+  pub news : ℕ
+
+-- what was news is written over the local text, and refused as the writer refuses it; 1 says so
+unfoldable pub rewritten : List ℕ → ℕ → ℕ → CeTwoPcPacket → Desk
+rewritten local len was p =
+    record {
+      refusal = wroteOf (ceWithin p) (ceText p) local 0 .refusal;
+      text = leftOf (ceWithin p) (ceText p) local 0;
+      len = either (eqb (wroteOf (ceWithin p) (ceText p) local 0 .refusal) 0) (wroteOf (ceWithin p) (ceText p) local 0 .next) len;
+      news = either (eqb (wroteOf (ceWithin p) (ceText p) local 0 .refusal) 0) 1 was;
+    }
+
+-- Redundant leaves the text and its length; 0 says so
+unfoldable pub answered : List ℕ → ℕ → ℕ → CeTwoPcPacket → MergeResult → Desk
+answered local len was p Redundant = record { refusal = 0; text = local; len = len; news = 0 }
+answered local len was p NewInfo = rewritten local len was p
+
+abbrev pub answer : List ℕ → ℕ → ℕ → Merged → Desk
+answer local len was m = answered local len was (m .payload .packet) (m .result)
+
+abbrev pub voters : ℕ → Float → ℕ → Voting
+voters n p seed = record { n = n; «abort_probability» = p; seed = seed }
+
+-- the call: position v of s .n positions merges the text in `received` into that in `local`; `was` is the news number before
+unfoldable pub deskOf : Voting → ℕ → List ℕ → ℕ → List ℕ → ℕ → ℕ → Desk
+deskOf s v local len received rlen was =
+    either (eqb (refusalOf (s .n) v (length local) len (length received) rlen) 0)
+    (answer local len was (mergeOf (noOf s) (s .n) v (payloadOf local len) (payloadOf received rlen)))
+    (record { refusal = refusalOf (s .n) v (length local) len (length received) rlen; text = local; len = len; news = was })
+
+-- a refused call leaves all as it was
+abbrev pub RefusedLeaves : Type 0
+RefusedLeaves =
+    (s : Voting) (v : ℕ) (local : List ℕ) (len : ℕ) (received : List ℕ) (rlen was : ℕ)
+    → (deskOf s v local len received rlen was .refusal ≡ 0 → ⊥)
+    → (deskOf s v local len received rlen was .text ≡ local)
+    × (deskOf s v local len received rlen was .len ≡ len)
+    × (deskOf s v local len received rlen was .news ≡ was)
