@@ -12,10 +12,10 @@ use Rattle.loops.specs.Pick.{either}
 use Rattle.texts.specs.Put.{written}
 use Rattle.packets.specs.Packets.{ceText, ceWithin}
 use Rattle.packets.specs.Reading.{ceRead}
-use Rattle.packets.specs.Writing.{wroteOf, leftOf}
+use Rattle.packets.specs.Writing.{refused, wroteOf, leftOf}
 use Rattle.packets.specs.Votes.{noOf}
-use Rattle.packets.specs.Merging.{mergeOf}
-use Rattle.packets.specs.Desk.{payloadOf, refusalOf, Desk, rewritten, answered, answer, deskOf, RefusedLeaves}
+use Rattle.packets.specs.Merging.{mergeOf, proposalOf}
+use Rattle.packets.specs.Desk.{payloadOf, refusalOf, Desk, rewritten, answered, answer, deskOf, proposeRefusal, proposedOf, proposedLeft, RefusedLeaves}
 use Rattle.packets.specs.declared.CeTwoPcPacket.{CeTwoPcPacket}
 use Rattle.packets.specs.declared.CeRead.{CeRead}
 use Rattle.packets.specs.declared.Wrote.{Wrote}
@@ -69,6 +69,25 @@ module _ (s : Voting) (v : ℕ) (local : List ℕ) (len : ℕ) (received : List 
     pub desk-rewritten : m .result ≡ NewInfo → deskOf s v local len received rlen was ≡ rewritten local len was (m .payload .packet)
     unfolding answered
     desk-rewritten h = desk-done ∙ ap (answered local len was (m .payload .packet)) h
+
+-- ---- the proposal's text
+module _ (s : Voting) (v t : ℕ) (buf : List ℕ) (k : ℕ) (e : k ≡ proposeRefusal (s .n) v t) where
+  pub propose-refused : (k ≡ 0 → ⊥) → refused k ≡ proposedOf s v t buf
+  unfolding proposedOf
+  propose-refused h = rw (← e, ne-eqb k 0 h)
+
+  pub propose-leaves : (k ≡ 0 → ⊥) → buf ≡ proposedLeft s v t buf
+  unfolding proposedLeft
+  propose-leaves h = rw (← e, ne-eqb k 0 h)
+
+  module _ (none : k ≡ 0) (p : CeTwoPcPacket) (f : p ≡ proposalOf (noOf s) (s .n) v t) where
+    pub propose-wrote : (w : Wrote) → w ≡ wroteOf (ceWithin p) (ceText p) buf 0 → w ≡ proposedOf s v t buf
+    unfolding proposedOf
+    propose-wrote w g = rw (← e, eq-eqb k 0 none) (g ∙ ap (λ (x : CeTwoPcPacket). wroteOf (ceWithin x) (ceText x) buf 0) f)
+
+    pub propose-left : (d : List ℕ) → d ≡ leftOf (ceWithin p) (ceText p) buf 0 → d ≡ proposedLeft s v t buf
+    unfolding proposedLeft
+    propose-left d g = rw (← e, eq-eqb k 0 none) (g ∙ ap (λ (x : CeTwoPcPacket). leftOf (ceWithin x) (ceText x) buf 0) f)
 
 -- ---- a refused call leaves all as it was
 abbrev Leaves : List ℕ → ℕ → ℕ → Desk → Type 0

@@ -10,11 +10,12 @@ use lib.ListN.{length}
 use Rattle.loops.specs.Pick.{either}
 use Rattle.packets.specs.Packets.{ceText, ceWithin}
 use Rattle.packets.specs.Reading.{ceRead}
-use Rattle.packets.specs.Writing.{wroteOf, leftOf}
+use Rattle.packets.specs.Writing.{refused, wroteOf, leftOf}
 use Rattle.packets.specs.Votes.{noOf}
-use Rattle.packets.specs.Merging.{mergeOf}
+use Rattle.packets.specs.Merging.{mergeOf, proposalOf}
 use Rattle.packets.specs.declared.CeTwoPcPacket.{CeTwoPcPacket}
 use Rattle.packets.specs.declared.CeRead.{CeRead}
+use Rattle.packets.specs.declared.Wrote.{Wrote}
 use Rattle.packets.specs.declared.votes.Voting.{Voting}
 use Rattle.packets.specs.declared.merging.MergeResult.{MergeResult}
 use Rattle.packets.specs.declared.merging.MergeResult.the-variants.{Redundant, NewInfo}
@@ -69,6 +70,27 @@ deskOf s v local len received rlen was =
     either (eqb (refusalOf (s .n) v (length local) len (length received) rlen) 0)
     (answer local len was (mergeOf (noOf s) (s .n) v (payloadOf local len) (payloadOf received rlen)))
     (record { refusal = refusalOf (s .n) v (length local) len (length received) rlen; text = local; len = len; news = was })
+
+-- ---- the proposal's text
+
+-- 2 and 8 as above, then 13 where no term follows
+unfoldable pub proposeRefusal : ℕ → ℕ → ℕ → ℕ
+proposeRefusal n v t = either (ltb 0 n && leb n 64) (either (ltb v n) (either (eqb t 18446744073709551615) 13 0) 8) 2
+
+-- the packet of the term after t, by position v, as the writer answers at the start of a buffer, and what it leaves there
+unfoldable pub proposedOf : Voting → ℕ → ℕ → List ℕ → Wrote
+proposedOf s v t buf =
+    either (eqb (proposeRefusal (s .n) v t) 0)
+    (wroteOf (ceWithin (proposalOf (noOf s) (s .n) v t)) (ceText (proposalOf (noOf s) (s .n) v t)) buf 0)
+    (refused (proposeRefusal (s .n) v t))
+
+unfoldable pub proposedLeft : Voting → ℕ → ℕ → List ℕ → List ℕ
+proposedLeft s v t buf =
+    either (eqb (proposeRefusal (s .n) v t) 0)
+    (leftOf (ceWithin (proposalOf (noOf s) (s .n) v t)) (ceText (proposalOf (noOf s) (s .n) v t)) buf 0)
+    buf
+
+-- ---- what the merge on texts promises
 
 -- a refused call leaves all as it was
 abbrev pub RefusedLeaves : Type 0

@@ -8,7 +8,8 @@ use crate::two_pc_ce;
 use crate::votes::Voting;
 ghost use mathlib.Core.Path.{_≡_};
 ghost use lib.ListN.{length};
-ghost use Rattle.packets.specs.Desk.{payloadOf, refusalOf, rewritten, voters, deskOf};
+ghost use Rattle.packets.specs.Console.{nextOf};
+ghost use Rattle.packets.specs.Desk.{payloadOf, refusalOf, rewritten, voters, deskOf, proposeRefusal, proposedOf, proposedLeft};
 
 // What the first len bytes of a text are.
 fn payload_of(text: &[u8], len: usize) -> Payload
@@ -122,4 +123,56 @@ pub extern "C" fn ce_packet_merge(
         }
         MergeResult::NewInfo => rewrite(local, local_len, news, p),
     }
+}
+
+fn propose_refusal(n: usize, initiator: usize, term: u64) -> u64
+    ensures { λ r. ⌜ r ≡ proposeRefusal n initiator term ⌝ }
+{
+    if n == 0 {
+        return 2;
+    }
+    if n > 64 {
+        return 2;
+    }
+    if initiator >= n {
+        return 8;
+    }
+    if term == 18446744073709551615 {
+        return 13;
+    }
+    0
+}
+
+// Writes the text of the packet that position initiator of n proposes after `term`, and its length into next. The answer is the refusal,
+// 0 for none; a refused call writes nothing.
+#[no_mangle]
+pub extern "C" fn ce_packet_propose(
+    term: u64,
+    n: u64,
+    initiator: u64,
+    abort_probability: f64,
+    seed: u64,
+    buf: &mut [u8],
+    next: &mut u64,
+) -> u64
+    ensures { λ r. ⌜ r ≡ proposedOf (voters n «abort_probability» seed) initiator term (now (buf .entry)) .refusal ⌝ }
+    ensures { λ _. ⌜ now (buf .exit) ≡ proposedLeft (voters n «abort_probability» seed) initiator term (now (buf .entry)) ⌝ }
+    ensures { λ _. ⌜ now (next .exit) ≡ nextOf (proposedOf (voters n «abort_probability» seed) initiator term (now (buf .entry))) (now (next .entry)) ⌝ }
+{
+    let k = propose_refusal(n as usize, initiator as usize, term);
+    if k != 0 {
+        return k;
+    }
+    let voting = Voting {
+        n: n as usize,
+        abort_probability,
+        seed,
+    };
+    let p = merging::init_proposal(voting, term, initiator as usize);
+    let w = two_pc_ce::write_ce_packet(buf, 0, p);
+    if w.refusal != 0 {
+        return w.refusal;
+    }
+    *next = w.next as u64;
+    0
 }
