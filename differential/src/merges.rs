@@ -198,15 +198,14 @@ mod compared {
             news: *mut u64,
         ) -> u64;
         fn ce_vote(term: u64, node_id: u64, abort_probability: f64, seed: u64) -> u64;
-        fn ce_proposal_write(
+        fn ce_packet_propose(
             term: u64,
-            initiator: u64,
             n: u64,
+            initiator: u64,
             abort_probability: f64,
             seed: u64,
             buf: *mut u8,
             buf_count: usize,
-            at: u64,
             next: *mut u64,
         ) -> u64;
     }
@@ -386,18 +385,17 @@ mod compared {
             } else {
                 Vec::new()
             };
-            let at = r.index(4);
-            let was = vec![WAS_BYTE; (at + text.len() + r.index(3)).saturating_sub(1)];
+            let was = vec![WAS_BYTE; (text.len() + r.index(3)).saturating_sub(1)];
             let (mut buf, mut next) = (was.clone(), WAS);
-            let answer = unsafe { ce_proposal_write(term, v, n, p, seed, buf.as_mut_ptr(), buf.len(), at as u64, &mut next) };
+            let answer = unsafe { ce_packet_propose(term, n, v, p, seed, buf.as_mut_ptr(), buf.len(), &mut next) };
             let due = if refusal != 0 {
                 (refusal, was, WAS)
-            } else if at + text.len() > was.len() {
+            } else if text.len() > was.len() {
                 (10, was, WAS)
             } else {
                 let mut b = was;
-                b[at..at + text.len()].copy_from_slice(&text);
-                (0, b, (at + text.len()) as u64)
+                b[..text.len()].copy_from_slice(&text);
+                (0, b, text.len() as u64)
             };
             t.same("proposal", text.len(), || format!("term {term} position {v} of {n} p {p:?} seed {seed}"), &(answer, buf, next), &due);
         }

@@ -15,5 +15,4 @@ pub mod Limits
 pub mod Parts
 pub mod Promises
 pub mod Asked
-pub mod Proposing
 pub mod Desks

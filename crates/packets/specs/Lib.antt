@@ -9,5 +9,4 @@ pub mod MergeCases
 pub mod Values
 pub mod Promises
 pub mod Console
-pub mod Asking
 pub mod Desk
