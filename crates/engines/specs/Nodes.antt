@@ -1,12 +1,13 @@
 -- Document 01, "Slots, counts, rows": the counts of a position, and what a slot's tick does to them. Assumes nothing.
-use Prim.Native.Nat.{ℕ, _+_, _%_, _^_}
+use Prim.Native.Nat.{ℕ, _+_, _%_, _^_, _<_}
 use mathlib.Core.Bool.{Bool, true, false}
-use mathlib.Core.List.{List}
+use mathlib.Core.List.{List, [], _∷_}
 use lib.ListN.{set, getD}
 use Rattle.loops.specs.Upto.{upto}
 use Rattle.marks.specs.Marks.{marks}
 use Rattle.engines.specs.Limits.{few}
 use Rattle.engines.specs.declared.node.Node.{Node}
+use Rattle.engines.specs.declared.node.StateSets.{StateSets}
 use Rattle.engines.specs.declared.node.NodeState.{NodeState}
 use Rattle.engines.specs.declared.node.NodeState.the-variants.{Listen, Flood, Sleep}
 
@@ -73,7 +74,20 @@ tickAt i l = set l i (ticked (getD l i noNode))
 unfoldable pub tickedAll : ℕ → List Node → List Node
 tickedAll n l = upto (few n) tickAt l
 
--- Which positions listen, and which flood.
+-- The three counts of a position together, and those of all positions.
+abbrev pub slots : Node → ℕ
+slots v = v .«slots_listen» + v .«slots_flood» + v .«slots_sleep»
+
+unfoldable pub total : List Node → ℕ
+total [] = 0
+total (v ∷ l) = slots v + total l
+
+-- every count lies below b
+pub data Below (b : ℕ) : List Node → Type 0 where
+  none : Below b []
+  more : (v : Node) {l : List Node} → v .«slots_listen» < b → v .«slots_flood» < b → v .«slots_sleep» < b → Below b l → Below b (v ∷ l)
+
+-- Whether position i listens, floods or sleeps.
 abbrev pub isListen : NodeState → Bool
 isListen Listen = true
 isListen Flood = false
@@ -84,8 +98,25 @@ isFlood Listen = false
 isFlood Flood = true
 isFlood Sleep = false
 
+abbrev pub isSleep : NodeState → Bool
+isSleep Listen = false
+isSleep Flood = false
+isSleep Sleep = true
+
 unfoldable pub listens : List Node → ℕ → Bool
 listens l i = isListen (getD l i noNode .state)
 
 unfoldable pub floods : List Node → ℕ → Bool
 floods l i = isFlood (getD l i noNode .state)
+
+unfoldable pub sleeps : List Node → ℕ → Bool
+sleeps l i = isSleep (getD l i noNode .state)
+
+-- the sets of the positions that do
+unfoldable pub setsOf : ℕ → List Node → StateSets
+setsOf n l =
+    record {
+      listening = marks (few n) (listens l);
+      flooding = marks (few n) (floods l);
+      sleeping = marks (few n) (sleeps l);
+    }

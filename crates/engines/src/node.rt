@@ -1,10 +1,12 @@
 // Ported from node.rs: a position's state, its counts, and one slot's tick. The payload is held beside the node.
 ghost use mathlib.Core.Path.{_≡_};
-ghost use Prim.Native.Nat.{_≤_, _<_};
-ghost use Rattle.loops.specs.Upto.{upto};
-ghost use Rattle.engines.specs.Limits.{few};
-ghost use Rattle.engines.specs.Nodes.{inc, noNode, resetRound, ticked, tickAt, tickedAll};
+ghost use mathlib.Core.Bool.{_||_, _&&_};
+ghost use Prim.Native.Nat.{ℕ};
+ghost use lib.Dec.{eqb, ltb};
+ghost use Rattle.marks.specs.Marks.{has};
+ghost use Rattle.engines.specs.Nodes.{noNode, resetRound, ticked, tickedAll, isListen, isFlood, isSleep, setsOf};
 use super::limits;
+use graph::sets;
 
 pub enum NodeState {
     Listen,
@@ -83,4 +85,46 @@ pub fn tick_all(at: [Node; 64], n: usize) -> [Node; 64]
         i += 1;
     }
     a
+}
+
+// The positions in each state, a mark each.
+pub struct StateSets {
+    pub listening: u64,
+    pub flooding: u64,
+    pub sleeping: u64,
+}
+
+// One position entered into the set of its state.
+fn note_state(s: StateSets, state: NodeState, i: usize) -> StateSets
+    ensures { λ r. ⌜ ((j : ℕ) → has (r .listening) j ≡ (has (s .listening) j || (isListen state && (ltb j 64 && eqb j i)))) ⌝ }
+    ensures { λ r. ⌜ ((j : ℕ) → has (r .flooding) j ≡ (has (s .flooding) j || (isFlood state && (ltb j 64 && eqb j i)))) ⌝ }
+    ensures { λ r. ⌜ ((j : ℕ) → has (r .sleeping) j ≡ (has (s .sleeping) j || (isSleep state && (ltb j 64 && eqb j i)))) ⌝ }
+{
+    let mut t = s;
+    match state {
+        NodeState::Listen => t.listening = sets::with_mark(t.listening, i),
+        NodeState::Flood => t.flooding = sets::with_mark(t.flooding, i),
+        NodeState::Sleep => t.sleeping = sets::with_mark(t.sleeping, i),
+    }
+    t
+}
+
+// Which of the first n positions listen, which flood and which sleep.
+pub fn state_sets(at: [Node; 64], n: usize) -> StateSets
+    ensures { λ r. ⌜ r ≡ setsOf n at ⌝ }
+{
+    let count = limits::at_most_64(n);
+    let mut s = StateSets {
+        listening: 0,
+        flooding: 0,
+        sleeping: 0,
+    };
+    let mut i: usize = 0;
+    while i < count {
+        let v = at[i];
+        let state = v.state;
+        s = note_state(s, state, i);
+        i += 1;
+    }
+    s
 }
