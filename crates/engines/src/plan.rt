@@ -87,7 +87,14 @@ fn toss(words: &[u64], slot: u64, timeout: u64, v: Node, i: usize, c: Coins) -> 
 }
 
 // The coins of the listening positions, the lowest first.
-fn toss_all(words: &[u64], slot: u64, timeout: u64, at: [Node; 64], listening: u64, d: Draw) -> Coins
+fn toss_all(
+    words: &[u64],
+    slot: u64,
+    timeout: u64,
+    at: [Node; 64],
+    listening: u64,
+    d: Draw,
+) -> Coins
     ensures { λ r. ⌜ r ≡ coinsOf (now (words .entry)) slot timeout at listening d ⌝ }
 {
     let mut c = Coins {
@@ -207,7 +214,15 @@ fn tally(p: Reception, h: Heard) -> Reception
 }
 
 // The turn of target t; whom it hears goes into the lent list.
-fn capture_at(words: &[u64], links: &[u64; 64], flooding: u64, loss: f64, t: usize, hears: &mut [usize; 64], p: Reception) -> Reception
+fn capture_at(
+    words: &[u64],
+    links: &[u64; 64],
+    flooding: u64,
+    loss: f64,
+    t: usize,
+    hears: &mut [usize; 64],
+    p: Reception,
+) -> Reception
     requires { ⌜ t < 64 ⌝ }
     ensures { λ r. ⌜ record { hears = now (hears .exit); tally = r } ≡ captureAt (now (words .entry)) loss (now (links .entry)) flooding t (record { hears = now (hears .entry); tally = p }) ⌝ }
 {
@@ -218,7 +233,15 @@ fn capture_at(words: &[u64], links: &[u64; 64], flooding: u64, loss: f64, t: usi
 }
 
 // The captures of all targets, the lowest first.
-fn capture_all(words: &[u64], links: &[u64; 64], targets: u64, flooding: u64, loss: f64, hears: &mut [usize; 64], p: Reception) -> Reception
+fn capture_all(
+    words: &[u64],
+    links: &[u64; 64],
+    targets: u64,
+    flooding: u64,
+    loss: f64,
+    hears: &mut [usize; 64],
+    p: Reception,
+) -> Reception
     ensures { λ r. ⌜ record { hears = now (hears .exit); tally = r } ≡ overMarks targets (captureAt (now (words .entry)) loss (now (links .entry)) flooding) (record { hears = now (hears .entry); tally = p }) ⌝ }
 {
     let mut q = p;
@@ -239,7 +262,16 @@ fn find_targets(listening: u64, recovering: u64) -> u64
 }
 
 // The plan of a slot.
-pub fn plan_slot(words: &[u64], links: &[u64; 64], at: [Node; 64], s: StateSets, slot: u64, timeout: u64, loss: f64, d: Draw) -> Plan
+pub fn plan_slot(
+    words: &[u64],
+    links: &[u64; 64],
+    at: [Node; 64],
+    s: StateSets,
+    slot: u64,
+    timeout: u64,
+    loss: f64,
+    d: Draw,
+) -> Plan
     ensures { λ r. ⌜ r ≡ planOf (now (words .entry)) loss (now (links .entry)) slot timeout at s d ⌝ }
 {
     let c = toss_all(words, slot, timeout, at, s.listening, d);

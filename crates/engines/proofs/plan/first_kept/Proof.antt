@@ -8,9 +8,6 @@ use Rattle.engines.proofs.Hearing.{examined-more}
 use borrow.Author.Needs.{needs}
 use Rattle.engines.proofs.plan.first_kept.Statement.{statement}
 use Rattle.engines.proofs.plan.first_kept.Tie as tie
-use Rattle.engines.proofs.plan.first_kept.Reads as reads
-use Rattle.engines.proofs.plan.first_kept.Lts as lts
-use Rattle.engines.proofs.plan.examine.Reads as examine-reads
 
 abbrev Inv-loop : tie.InvT-loop
 Inv-loop words ids count loss h₀ left₀ h left = (h .examined + left ≡ count) × (runs isFound (examine1 words ids loss) left h ≡ runs isFound (examine1 words ids loss) count h₀)
@@ -18,32 +15,10 @@ Inv-loop words ids count loss h₀ left₀ h left = (h .examined + left ≡ coun
 abbrev μ-loop : tie.MeasureT-loop
 μ-loop words ids count loss h₀ left₀ h left = left
 
--- src/plan.rt:172:5
-loop-holds : tie.Need-loop-holds Inv-loop μ-loop
-loop-holds c = (search needs, refl)
-
--- src/plan.rt:174:13
 returns : tie.Need-returns Inv-loop μ-loop
 unfolding firstKept
 returns c = runs-stop _ _ (c .before .loop-test .taken) (c .if1 .taken) (c .before .before .loop .inv .1)
 
--- src/plan.rt:176:9
-examine-requires : tie.Need-examine-requires Inv-loop μ-loop
-examine-requires c κs = search needs
-
--- src/plan.rt:177:9
-sub-left : tie.Need-sub-left Inv-loop μ-loop
-sub-left c = search needs
-
--- src/plan.rt:172:5
-loop-less : tie.Need-loop-less Inv-loop μ-loop
-loop-less c = search needs
-
--- src/plan.rt:172:5
-loop-again : tie.Need-loop-again Inv-loop μ-loop
-loop-again c = (omega (arith, ap (λ (g : Heard). g .examined) (c .examine .ensures), examined-more (c .before .before .before .before .before .args .words .now) (c .before .before .before .before .before .args .ids .now) (c .before .before .before .before .before .args .loss) (c .before .before .before .loop .h)), runs-turn _ _ (c .before .before .loop-test .taken) (c .before .if1 .left) (c .examine .ensures) (c .before .before .before .loop .inv .1))
-
--- src/plan.rt:161:1
 returns-2 : tie.Need-returns-2 Inv-loop μ-loop
 unfolding firstKept
 returns-2 c = runs-none _ _ (c .loop-test .left) (c .before .loop .inv .1)
@@ -54,10 +29,10 @@ first-kept-spec =
     (tie.spec
     Inv-loop
     μ-loop
-    loop-holds
+    (λ c. (search needs, refl))
     returns
-    examine-requires
-    sub-left
-    loop-less
-    loop-again
+    (λ c κs. search needs)
+    (λ c. search needs)
+    (λ c. search needs)
+    (λ c. (omega (arith, ap (λ (g : Heard). g .examined) (c .examine .ensures), examined-more (c .before .before .before .before .before .args .words .now) (c .before .before .before .before .before .args .ids .now) (c .before .before .before .before .before .args .loss) (c .before .before .before .loop .h)), runs-turn _ _ (c .before .before .loop-test .taken) (c .before .if1 .left) (c .examine .ensures) (c .before .before .before .loop .inv .1)))
     returns-2)
