@@ -6,3 +6,4 @@ pub mod Rows
 pub mod Metrics
 pub mod Settings
 pub mod Plan
+pub mod Cases
