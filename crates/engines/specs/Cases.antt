@@ -105,7 +105,6 @@ half = ofBits binary64 0x3FE0_0000_0000_0000
 abbrev short : Plan → List ℕ
 short p = p .recovering ∷ p .draw .at ∷ p .«ce_timeouts» ∷ p .«rx_attempts» ∷ p .«rx_success» ∷ take 2 (p .hears)
 
-
 abbrev two : List Node
 two = noNode ∷ noNode ∷ []
 

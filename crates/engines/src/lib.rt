@@ -6,4 +6,5 @@ pub mod node;
 pub mod plan;
 pub mod rows;
 pub mod settings;
+pub mod turns;
 pub mod words;
