@@ -6,3 +6,4 @@ pub mod Marking
 pub mod Hearing
 pub mod Kept
 pub mod Cursor
+pub mod Neighbours

@@ -1,8 +1,10 @@
 -- Document 01, "Capture round", one slot from its coins to its captures: what the words decide, before anything is merged.
 -- A link from s to t says that t hears s: row s of the links has mark t. Assumes nothing.
-use Prim.Native.Nat.{ℕ, _+_, _-_, _%_, _^_}
+use Prim.Native.Nat.{ℕ, _+_, _-_, _%_, _^_, _<_}
 use mathlib.Core.Bool.{Bool, true, false, not, _&&_}
 use mathlib.Core.List.{List}
+use mathlib.Core.Logic.{_⊎_}
+use mathlib.Core.Path.{_≡_}
 use lib.Dec.{leb}
 use lib.ListN.{getD, set, replicate}
 use lib.Ieee.{Float}
@@ -137,3 +139,17 @@ planAfter ws loss links s c = planned c (capturesOf ws loss links (targetsOf (s 
 -- The plan of a slot: coins, then captures. Every recovery counts as one timeout.
 unfoldable pub planOf : List ℕ → Float → List ℕ → ℕ → ℕ → List Node → StateSets → Draw → Plan
 planOf ws loss links slot timeout nodes s d = planAfter ws loss links s (coinsOf ws slot timeout nodes (s .listening) d)
+
+-- What a plan may say of target t: that it hears nobody, or a flooding position that has it as neighbour.
+pub record Sender (links : List ℕ) (flooding t s : ℕ) : Type 0 where
+  pub position : s < 64
+  pub floods : has flooding s ≡ true
+  pub linked : has (getD links s 0) t ≡ true
+
+abbrev pub Hears : List ℕ → ℕ → ℕ → ℕ → Type 0
+Hears links flooding t s = (s ≡ 64) ⊎ Sender links flooding t s
+
+-- What a mark among the recovering says of position i.
+pub record Recovers (slot timeout : ℕ) (nodes : List Node) (listening i : ℕ) : Type 0 where
+  pub listens : has listening i ≡ true
+  pub due : timedOut slot timeout (getD nodes i noNode) ≡ true
