@@ -1,8 +1,8 @@
 -- Document 01, demand 3's sum: what a slot's tick does to the counts of all positions. Assumes nothing.
 use Prim.Native.Nat.{ℕ, zero, suc, _+_, _-_, _≤_, _<_, _^_}
-use mathlib.Core.Path.{_≡_, refl, sym, ap, _∙_}
+use mathlib.Core.Path.{_≡_, refl, ap, _∙_}
 use mathlib.Core.List.{List, [], _∷_, _++_, map}
-use lib.ListN.{length, take, drop, set, getD, length-map, take-append-drop, length-set}
+use lib.ListN.{length, take, drop, getD, take-append-drop, length-set}
 use lib.Seq.{length-take-le}
 use native.Mathlib.Nat.{mod-eq-of-lt}
 use native.Mathlib.Omega.{arith}

@@ -1,18 +1,18 @@
 -- Document 01, "Words", and refusal 16: over any draws the cursor only rises, a lack of words stays noted, and as long as none is
 -- noted every word drawn lies in the list. Assumes nothing.
-use Prim.Native.Nat.{ℕ, zero, suc, _+_, _-_, _≤_, _<_, max}
+use Prim.Native.Nat.{ℕ, zero, suc, _+_, _-_, _≤_, max}
 use mathlib.Core.Bool.{Bool, true, false}
 use mathlib.Core.List.{List}
-use mathlib.Core.Path.{_≡_, refl, sym, ap, _∙_}
+use mathlib.Core.Path.{_≡_, refl}
 use lib.Dec.{ltb}
 use lib.ListN.{length, getD}
 use lib.Ieee.{Float}
 use native.Mathlib.Omega.{arith}
-use borrow.Author.Tests.{ltb-true, ltb-false}
+use borrow.Author.Tests.{ltb-true}
 use Rattle.loops.specs.Pick.{either}
 use Rattle.loops.specs.Upto.{upto}
 use Rattle.loops.specs.Downto.{downto}
-use Rattle.loops.specs.Runs.{go, runs}
+use Rattle.loops.specs.Runs.{go}
 use Rattle.marks.specs.Marks.{has}
 use Rattle.engines.specs.Limits.{few}
 use Rattle.engines.specs.Marked.{overMarks}

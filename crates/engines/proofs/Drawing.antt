@@ -1,5 +1,5 @@
 -- What the proofs of the draws lean on. Assumes nothing.
-use Prim.Native.Nat.{ℕ, _+_, _≤_, _%_, _^_, _<_}
+use Prim.Native.Nat.{ℕ, _+_, _≤_, _^_, _<_}
 use mathlib.Core.Path.{_≡_}
 use native.Mathlib.Nat.{mod-lt, mod-eq-of-lt}
 use native.Mathlib.Omega.{arith}

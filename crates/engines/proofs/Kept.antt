@@ -3,9 +3,9 @@
 use Prim.Native.Nat.{ℕ, suc, _+_, _-_, _≤_, _<_, _^_}
 use mathlib.Core.List.{List, [], _∷_, map}
 use mathlib.Core.Path.{_≡_, refl, sym, ap, _∙_}
-use lib.ListN.{length, set, getD, length-map, length-set}
+use lib.ListN.{length, getD, length-map}
 use lib.Seq.{map-set-same}
-use Rattle.loops.specs.Upto.{upto, upto-keeps}
+use Rattle.loops.specs.Upto.{upto-keeps}
 use Rattle.engines.specs.Limits.{few}
 use Rattle.engines.specs.Nodes.{noNode, counted, tickedAll, total, slots, Below, none, more}
 use Rattle.engines.specs.Turns.{started, startAt, startedAll, turned, turnOf, turnAt, turnedAll}

@@ -7,3 +7,4 @@ pub mod Hearing
 pub mod Kept
 pub mod Cursor
 pub mod Neighbours
+pub mod RowSums

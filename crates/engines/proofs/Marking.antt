@@ -1,14 +1,14 @@
 -- A loop that takes the lowest mark away at each turn goes over the marks of a set in rising order; and two sets by their marks.
 -- Assumes nothing.
-use Prim.Native.Nat.{ℕ, zero, suc, _+_, _^_, _<_, _≤_}
+use Prim.Native.Nat.{ℕ, zero, suc, _^_, _<_}
 use mathlib.Core.Bool.{Bool, true, false, not, _||_, _&&_}
 use mathlib.Core.Path.{_≡_, refl, sym, ap, _∙_}
 use lib.Dec.{eqb, ltb}
 use native.Mathlib.Omega.{arith}
-use borrow.Author.Tests.{eq-eqb, ne-eqb, eqb-true, eqb-false, ltb-true, ltb-false}
+use borrow.Author.Tests.{eq-eqb, eqb-true, eqb-false, ltb-false}
 use Rattle.loops.specs.Pick.{either}
 use Rattle.loops.specs.Upto.{upto}
-use Rattle.marks.specs.Marks.{has, marks, countOf, Lowest}
+use Rattle.marks.specs.Marks.{has, countOf, Lowest}
 use Rattle.marks.specs.Laws.{has-none, has-out}
 use Rattle.marks.specs.Sets.{and-true, lowest-lt, count-grows, marks-is}
 use Rattle.engines.specs.Marked.{overMarks, withMark}

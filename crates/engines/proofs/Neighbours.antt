@@ -6,7 +6,7 @@ use mathlib.Core.List.{List}
 use mathlib.Core.Logic.{_⊎_, inl, inr, ⊎-elim}
 use mathlib.Core.Path.{_≡_, refl, sym, ap, _∙_, subst}
 use lib.Dec.{eqb, ltb}
-use lib.ListN.{length, getD, set, replicate, length-set, length-replicate, getD-replicate, List·getD-eq-default}
+use lib.ListN.{length, getD, set, replicate, length-set, length-replicate}
 use lib.Seq.{getD-set-same, getD-set-other}
 use lib.Ieee.{Float}
 use native.Mathlib.Omega.{arith}
@@ -15,7 +15,7 @@ use Rattle.loops.specs.Pick.{either}
 use Rattle.loops.specs.Upto.{upto}
 use Rattle.loops.specs.Downto.{downto}
 use Rattle.loops.specs.Runs.{go}
-use Rattle.marks.specs.Marks.{has, marks}
+use Rattle.marks.specs.Marks.{has}
 use Rattle.marks.specs.Laws.{has-none}
 use Rattle.marks.specs.Sets.{and-true, has-marks}
 use Rattle.engines.specs.Limits.{few}
@@ -26,7 +26,6 @@ use Rattle.engines.specs.Plan.{timedOut, tossed1, tossAt, coinsOf, Recov
 use Rattle.engines.proofs.Drawing.{pick-le}
 use Rattle.engines.proofs.Hearing.{examined-more}
 use Rattle.engines.specs.declared.words.Draw.{Draw}
-use Rattle.engines.specs.declared.words.Drawn.{Drawn}
 use Rattle.engines.specs.declared.node.Node.{Node}
 use Rattle.engines.specs.declared.node.StateSets.{StateSets}
 use Rattle.engines.specs.Nodes.{noNode}

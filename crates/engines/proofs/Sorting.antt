@@ -1,12 +1,12 @@
 -- The sets of the positions in each state, as a loop over the positions finds them. Assumes nothing.
 use Prim.Native.Nat.{ℕ, _+_, _<_, _≤_, _^_}
-use mathlib.Core.Bool.{Bool, _||_, _&&_}
+use mathlib.Core.Bool.{_||_, _&&_}
 use mathlib.Core.List.{List}
 use mathlib.Core.Path.{_≡_, refl}
 use lib.Dec.{eqb, ltb}
 use lib.ListN.{getD}
 use native.Mathlib.Omega.{arith}
-use Rattle.marks.specs.Marks.{has, marks}
+use Rattle.marks.specs.Marks.{has}
 use Rattle.marks.specs.Sets.{grown-none, grown-turn, grown-all}
 use Rattle.engines.specs.Limits.{few}
 use Rattle.engines.specs.Nodes.{noNode, isListen, isFlood, isSleep, listens, floods, sleeps, setsOf}

@@ -1,6 +1,6 @@
 -- Worked cases, computed over the rules themselves. Assumes nothing.
 use Prim.Native.Nat.{ℕ, _^_, _-_}
-use mathlib.Core.Bool.{Bool, true, false}
+use mathlib.Core.Bool.{true, false}
 use mathlib.Core.List.{List, [], _∷_}
 use mathlib.Core.Path.{_≡_, refl}
 use lib.ListN.{take}
@@ -12,11 +12,11 @@ use Rattle.marks.specs.Marks.{marks, countOf}
 use Rattle.engines.specs.Marked.{overMarks, withMark}
 use Rattle.engines.specs.Words.{nextOf, unitOf, coinOf, lostOf, pickOf, swapStep, shuffled}
 use Rattle.engines.specs.Nodes.{noNode, listens, floods, sleeps, setsOf}
-use Rattle.engines.specs.Rows.{rowOf, highestProgress, isDue, nextRow, putRow, putBehind, rowsRefused}
+use Rattle.engines.specs.Rows.{rowOf, highestProgress, putBehind, rowsRefused}
 use Rattle.engines.specs.Metrics.{ratioOf}
 use Rattle.engines.specs.Settings.{lossAccepted, isLossy}
+use Rattle.engines.specs.Turns.{nextState}
 use Rattle.engines.specs.Plan.{timedOut, tossed1, coinsOf, noteAt, sendersOf, examine1, firstKept, heardFrom, captureOf, whom, tallied, captureAt, targetsOf, capturesOf, planAfter, planOf}
-use Rattle.engines.specs.declared.words.Draw.{Draw}
 use Rattle.engines.specs.declared.node.Node.{Node}
 use Rattle.engines.specs.declared.node.NodeState.{NodeState}
 use Rattle.engines.specs.declared.node.NodeState.the-variants.{Listen, Flood, Sleep}
@@ -148,3 +148,17 @@ lossless = refl
 lacking : planOf [] none (0 ∷ 1 ∷ 1 ∷ []) 5 100 two (record { listening = 1; flooding = 6; sleeping = 0 }) (record { at = 9; short = false }) .draw ≡ record { at = 9; short = true }
 unfolding upto downto go marks countOf overMarks withMark nextOf unitOf coinOf lostOf pickOf swapStep shuffled isLossy timedOut tossed1 coinsOf noteAt sendersOf examine1 firstKept heardFrom captureOf whom tallied captureAt targetsOf capturesOf planAfter planOf ofBits ofFields ofInt div round units odd size span climb lt le eq
 lacking = refl
+
+-- ---- next states
+
+-- One that can sleep floods once more before it sleeps, and wakes again from sleep; any other sleeper sleeps on; a flooder listens.
+states :
+    (nextState Flood false true ≡ Sleep)
+    × (nextState Sleep false true ≡ Flood)
+    × (nextState Listen false true ≡ Flood)
+    × (nextState Flood true true ≡ Sleep)
+    × (nextState Sleep false false ≡ Sleep)
+    × (nextState Flood false false ≡ Listen)
+    × (nextState Listen true false ≡ Flood)
+unfolding nextState
+states = (refl, refl, refl, refl, refl, refl, refl)

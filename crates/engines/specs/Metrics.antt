@@ -2,7 +2,7 @@
 use Prim.Native.Nat.{ℕ}
 use lib.Dec.{eqb}
 use lib.IntN.{pos}
-use lib.Ieee.{Float, binary64, div, ofInt}
+use lib.Ieee.{binary64, div, ofInt}
 use Rattle.loops.specs.Pick.{either}
 use Rattle.engines.specs.declared.metrics.MetricsCollector.{MetricsCollector}
 use Rattle.engines.specs.declared.metrics.Ratio.{Ratio}

@@ -2,11 +2,9 @@
 // and needs states, last progress and links alone; what is merged by it comes after.
 ghost use mathlib.Core.Path.{_≡_};
 ghost use Prim.Native.Nat.{_+_, _-_, _<_, _≤_};
-ghost use lib.ListN.{getD};
 ghost use Rattle.loops.specs.Pick.{either};
 ghost use Rattle.engines.specs.Marked.{overMarks, withMark};
-ghost use Rattle.engines.specs.Nodes.{noNode};
-ghost use Rattle.engines.specs.Plan.{timedOut, tossAt, tossed1, coinsOf, noteAt, examine1, firstKept, captureOf, whom, tallied, captureAt, targetsOf, capturesOf, planOf};
+ghost use Rattle.engines.specs.Plan.{timedOut, tossed1, coinsOf, noteAt, examine1, firstKept, captureOf, whom, tallied, captureAt, targetsOf, planOf};
 use super::node::Node;
 use super::node::StateSets;
 use super::settings;

@@ -1,7 +1,6 @@
 // Rows: at every row slot five numbers on the whole network, written one behind the other into a lent buffer.
 ghost use mathlib.Core.Path.{_≡_};
-ghost use Prim.Native.Nat.{ℕ, max};
-ghost use lib.ListN.{length};
+ghost use Prim.Native.Nat.{max};
 ghost use Rattle.engines.specs.Rows.{highestProgress, rowOf, isDue, nextRow, putRow, putBehind, rowsRefused};
 use super::limits;
 use super::node::Node;

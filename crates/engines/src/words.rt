@@ -1,8 +1,6 @@
 // Random draws from a lent list of words: a cursor by value, and what one word gives.
 ghost use mathlib.Core.Path.{_≡_};
-ghost use Prim.Native.Nat.{_<_, _+_, _%_, _^_};
-ghost use lib.Dec.{ltb};
-ghost use lib.Ieee.{lt};
+ghost use Prim.Native.Nat.{_<_, _+_, _%_};
 ghost use Rattle.engines.specs.Words.{unitOf, nextOf, coinOf, lostOf, pickOf, swapStep, shuffled};
 use super::limits;
 

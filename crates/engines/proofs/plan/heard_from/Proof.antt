@@ -1,5 +1,4 @@
 use Rattle.engines.specs.Plan.{whom}
-use borrow.Author.Needs.{needs}
 use Rattle.engines.proofs.plan.heard_from.Statement.{statement}
 use Rattle.engines.proofs.plan.heard_from.Tie as tie
 

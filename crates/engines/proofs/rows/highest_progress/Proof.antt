@@ -2,7 +2,7 @@ use Prim.Native.Nat.{_≤_, _-_}
 use mathlib.Core.Path.{_≡_}
 use lib.ListN.{getD}
 use Rattle.loops.specs.Highest.{highest}
-use Rattle.loops.specs.Upto.{upto, upto-none, upto-turn, upto-all}
+use Rattle.loops.specs.Upto.{upto-none, upto-turn, upto-all}
 use Rattle.engines.specs.Nodes.{noNode}
 use Rattle.engines.specs.Rows.{highestProgress}
 use borrow.Author.Needs.{needs}

@@ -1,6 +1,5 @@
 use mathlib.Core.Path.{refl}
 use Rattle.engines.specs.Rows.{isDue}
-use borrow.Author.Needs.{needs}
 use Rattle.engines.proofs.rows.row_due.Statement.{statement}
 use Rattle.engines.proofs.rows.row_due.Tie as tie
 

@@ -1,5 +1,4 @@
 use Rattle.engines.proofs.Placing.{refused-used, refused-due, not-refused}
-use borrow.Author.Needs.{needs}
 use Rattle.engines.proofs.rows.rows_refused.Statement.{statement}
 use Rattle.engines.proofs.rows.rows_refused.Tie as tie
 

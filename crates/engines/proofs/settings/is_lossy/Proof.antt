@@ -1,6 +1,5 @@
 use mathlib.Core.Path.{refl}
 use Rattle.engines.specs.Settings.{isLossy}
-use borrow.Author.Needs.{needs}
 use Rattle.engines.proofs.settings.is_lossy.Statement.{statement}
 use Rattle.engines.proofs.settings.is_lossy.Tie as tie
 

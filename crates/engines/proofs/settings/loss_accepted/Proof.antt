@@ -1,5 +1,4 @@
 use Rattle.engines.specs.Settings.{lossAccepted}
-use borrow.Author.Needs.{needs}
 use Rattle.engines.proofs.settings.loss_accepted.Statement.{statement}
 use Rattle.engines.proofs.settings.loss_accepted.Tie as tie
 

@@ -1,5 +1,4 @@
 use borrow.Author.Tests.{eq-eqb, ne-eqb}
-use borrow.Author.Needs.{needs}
 use Rattle.engines.proofs.turns.first_state.Statement.{statement}
 use Rattle.engines.proofs.turns.first_state.Tie as tie
 

@@ -1,6 +1,5 @@
 use mathlib.Core.Path.{refl}
 use Rattle.engines.specs.Words.{coinOf}
-use borrow.Author.Needs.{needs}
 use Rattle.engines.proofs.words.coin.Statement.{statement}
 use Rattle.engines.proofs.words.coin.Tie as tie
 

@@ -4,7 +4,6 @@ use lib.Dec.{le→leb}
 use lib.Ieee
 use mathlib.Core.Path.{refl}
 use Rattle.engines.specs.Words.{unitOf}
-use borrow.Author.Needs.{needs}
 use Rattle.engines.proofs.words.unit.Statement.{statement}
 use Rattle.engines.proofs.words.unit.Tie as tie
 

@@ -1,6 +1,5 @@
 use mathlib.Core.Path.{refl}
 use Rattle.engines.specs.Nodes.{resetRound}
-use borrow.Author.Needs.{needs}
 use Rattle.engines.proofs.node.Node.reset_round.Statement.{statement}
 use Rattle.engines.proofs.node.Node.reset_round.Tie as tie
 
