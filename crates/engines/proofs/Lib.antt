@@ -1,0 +1,10 @@
+pub mod Drawing
+pub mod Sorting
+pub mod Placing
+pub mod Counts
+pub mod Marking
+pub mod Hearing
+pub mod Kept
+pub mod Cursor
+pub mod Neighbours
+pub mod RowSums

@@ -1,0 +1,10 @@
+pub mod Limits
+pub mod Marked
+pub mod Words
+pub mod Nodes
+pub mod Rows
+pub mod Metrics
+pub mod Settings
+pub mod Plan
+pub mod Turns
+pub mod Cases
