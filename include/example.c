@@ -1,4 +1,4 @@
-/* Writes a packet of each family, reads it back, and shows two refusals. From the top of the repository:
+/* Writes a packet of each family, reads it back, shows two refusals, and passes a proposal on by a merge. From the top of the repository:
 
        rt staticlib packets
        gcc -std=c11 -Wall -Wextra -Werror -Iinclude include/example.c target/staticlib/libpackets.a -o target/example
@@ -59,7 +59,24 @@ static int pipeline(void)
     return 0;
 }
 
+/* Position 0 of two proposes, and position 1, which held nothing, merges what it hears: all votes are in, so it commits. */
+static int merge(void)
+{
+    uint8_t sent[CE_LONGEST], held[CE_LONGEST];
+    uint64_t sent_len = 0, held_len = 0, news = 0;
+    if (ce_packet_propose(0, 2, 0, 0.0, 0, sent, sizeof sent, &sent_len) != 0)
+        return 1;
+    show_text(sent, sent_len);
+    if (ce_packet_merge(held, sizeof held, &held_len, sent, sizeof sent, sent_len, 2, 1, 0.0, 0, &news) != 0)
+        return 1;
+    printf("news: %llu\n", (unsigned long long)news);
+    show_text(held, held_len);
+    printf("position 2 of 2: refusal %llu\n",
+           (unsigned long long)ce_packet_merge(held, sizeof held, &held_len, sent, sizeof sent, sent_len, 2, 2, 0.0, 0, &news));
+    return 0;
+}
+
 int main(void)
 {
-    return capture() || pipeline();
+    return capture() || pipeline() || merge();
 }

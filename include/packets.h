@@ -56,4 +56,21 @@ uint64_t pipeline_packet_write(const uint64_t *numbers, size_t numbers_count,
                                const uint8_t *data, size_t data_count,
                                uint8_t *buf, size_t buf_count, uint64_t at, uint64_t *next);
 
+/* Merges the received text into the local one for position node_id of n, where each position votes by the abort probability and the seed. The local text is
+   the first *local_len bytes of local (0: none). *news becomes 1 if there is news, and then local holds the new text and *local_len its length, the bytes behind it
+   as they were; or 0, and local is as it was. 2 for n outside 1 to 64, 8 for a position that is none of them, 10 for a stated length over its buffer,
+   all before any text is read; a text that is no packet's is no news; 10 for a new text that does not fit. */
+uint64_t ce_packet_merge(uint8_t *local, size_t local_count, uint64_t *local_len,
+                         const uint8_t *received, size_t received_count, uint64_t received_len,
+                         uint64_t n, uint64_t node_id, double abort_probability, uint64_t seed,
+                         uint64_t *news);
+
+/* Writes the text of what position initiator of n holds after proposing in a room whose term was `term`; *next becomes its length. 2 and 8 as above, 13 for the
+   last term there is, 10 for a text that does not fit. */
+uint64_t ce_packet_propose(uint64_t term, uint64_t n, uint64_t initiator, double abort_probability, uint64_t seed,
+                           uint8_t *buf, size_t buf_count, uint64_t *next);
+
+/* 1 if the position votes no in the term, 0 if it votes yes. Nothing is refused. */
+uint64_t ce_vote(uint64_t term, uint64_t node_id, double abort_probability, uint64_t seed);
+
 #endif

@@ -1,0 +1,97 @@
+-- Digits and numbers of a frame line, as the code reads them. Assumes nothing.
+use mathlib.Core.Path.{_≡_, refl}
+use mathlib.Core.Bool.{Bool, true, false, _&&_}
+use mathlib.Core.List.{List}
+use Prim.Native.Nat.{ℕ, zero, suc, _+_, _-_, _*_, _/_, _^_, _≤_, _<_}
+use native.Mathlib.Nat.{pow-suc, pow-le-pow-right}
+use native.Mathlib.Numerals.{add-one}
+use native.Mathlib.Omega.{arith}
+use lib.ListN.{length, getD}
+use lib.Dec.{leb}
+use borrow.Author.Tests.{le-leb, lt-leb, leb-true}
+use Rattle.loops.specs.Pick.{either}
+use Rattle.frame.specs.Lines.{isHex, digitOf, numberAt, nameLength, wordCount}
+
+between : (a b c : ℕ) → a ≤ b → b ≤ c → (leb a b && leb b c) ≡ true
+between a b c h k = rw (le-leb a b h, le-leb b c k)
+
+under : (a b c : ℕ) → b < a → (leb a b && leb b c) ≡ false
+under a b c h = rw (lt-leb a b h)
+
+over : (a b c : ℕ) → c < b → (leb a b && leb b c) ≡ false
+over a b c h = go (leb a b)
+  where
+    go : (t : Bool) → (t && leb b c) ≡ false
+    go true = lt-leb b c h
+    go false = refl
+
+-- The five ways past two ranges of bytes: in the first, in the second, under both, between them, over both.
+module _ (b : ℕ) where
+  pub hex-low : 48 ≤ b → b ≤ 57 → true ≡ isHex b
+  hex-low h k = rw (between 48 b 57 h k)
+
+  pub hex-high : 65 ≤ b → b ≤ 70 → true ≡ isHex b
+  hex-high h k = rw (over 48 b 57 (omega arith), between 65 b 70 h k)
+
+  pub hex-under : b < 48 → false ≡ isHex b
+  hex-under h = rw (under 48 b 57 h, under 65 b 70 (omega arith))
+
+  pub hex-between : 57 < b → b < 65 → false ≡ isHex b
+  hex-between h k = rw (over 48 b 57 h, under 65 b 70 k)
+
+  pub hex-over : 70 < b → false ≡ isHex b
+  hex-over h = rw (over 48 b 57 (omega arith), over 65 b 70 h)
+
+  pub digit-low : 48 ≤ b → b ≤ 57 → b - 48 ≡ digitOf b
+  digit-low h k = rw (between 48 b 57 h k)
+
+  pub digit-high : 65 ≤ b → b ≤ 70 → b - 55 ≡ digitOf b
+  digit-high h k = rw (over 48 b 57 (omega arith), between 65 b 70 h k)
+
+  pub digit-under : b < 48 → 0 ≡ digitOf b
+  digit-under h = rw (under 48 b 57 h, under 65 b 70 (omega arith))
+
+  pub digit-between : 57 < b → b < 65 → 0 ≡ digitOf b
+  digit-between h k = rw (over 48 b 57 h, under 65 b 70 k)
+
+  pub digit-over : 70 < b → 0 ≡ digitOf b
+  digit-over h = rw (over 48 b 57 (omega arith), over 65 b 70 h)
+
+pub digit-lt : (b : ℕ) → digitOf b < 16
+digit-lt b = go (leb 48 b) (leb b 57) refl (leb 65 b) (leb b 70) refl
+  where
+    go : (p q : Bool) → leb b 57 ≡ q → (r s : Bool) → leb b 70 ≡ s → either (p && q) (b - 48) (either (r && s) (b - 55) 0) < 16
+    go true true e r s f = omega (arith, leb-true b 57 e)
+    go true false e true true f = omega (arith, leb-true b 70 f)
+    go true false e true false f = omega arith
+    go true false e false s f = omega arith
+    go false q e true true f = omega (arith, leb-true b 70 f)
+    go false q e true false f = omega arith
+    go false q e false s f = omega arith
+
+-- c digits are a number below 16 ^ c
+pub number-lt : (s : List ℕ) (i c : ℕ) → numberAt s i c < 16 ^ c
+unfolding numberAt
+number-lt s i zero = omega arith
+number-lt s i (suc c) = omega (arith, number-lt s i c, digit-lt (getD s (i + c) 0), pow-suc 16 c)
+
+-- a digit more
+pub number-more : (s : List ℕ) (i k v d : ℕ) → v ≡ numberAt s i k → d ≡ digitOf (getD s (i + k) 0) → v * 16 + d ≡ numberAt s i (k + 1)
+unfolding numberAt
+number-more s i k v d e f = rw (add-one k, e, f)
+
+pub number-none : (s : List ℕ) (i : ℕ) → 0 ≡ numberAt s i 0
+unfolding numberAt
+number-none s i = refl
+
+-- one digit more fits a word while there are fewer than 16
+pub number-room : (s : List ℕ) (i k v : ℕ) → k < 16 → v ≡ numberAt s i k → v * 16 + 15 < 2 ^ 64
+number-room s i k v h e = omega (arith, number-lt s i k, pow-le-pow-right {n = 16} (omega arith) {i = k} {j = 15} (omega arith))
+
+-- behind the name
+pub no-words : (s : List ℕ) (n : ℕ) → n ≡ nameLength s → length s < 76 + 2 * n → 0 ≡ wordCount s
+unfolding wordCount
+no-words s n e h = rw (← e) (none (length s) n h)
+  where
+    none : (l n : ℕ) → l < 76 + 2 * n → 0 ≡ (l - (76 + 2 * n)) / 16
+    none l n h = omega arith

@@ -1,0 +1,2 @@
+// A frame line in, its listing line out.
+pub mod line;
