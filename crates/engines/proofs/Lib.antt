@@ -8,3 +8,4 @@ pub mod Kept
 pub mod Cursor
 pub mod Neighbours
 pub mod RowSums
+pub mod Telling

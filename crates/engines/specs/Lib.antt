@@ -8,3 +8,4 @@ pub mod Settings
 pub mod Plan
 pub mod Turns
 pub mod Cases
+pub mod Ce
