@@ -9,3 +9,4 @@ pub mod Plan
 pub mod Turns
 pub mod Cases
 pub mod Ce
+pub mod Capture

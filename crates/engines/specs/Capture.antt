@@ -1,0 +1,79 @@
+-- Document 01, "Capture round", a slot: tick, row, goal test, coins, captures, merges, next states. Assumes nothing.
+use Prim.Native.Nat.{ℕ, _+_, _%_, _^_}
+use mathlib.Core.Bool.{Bool, true, false}
+use mathlib.Core.List.{List}
+use Rattle.loops.specs.Pick.{either}
+use Rattle.packets.specs.Merging.{networkGoalOf}
+use Rattle.engines.specs.Nodes.{inc, tickedAll, setsOf}
+use Rattle.engines.specs.Rows.{nextRow}
+use Rattle.engines.specs.Plan.{planOf}
+use Rattle.engines.specs.Turns.{turnedAll, countedSlot}
+use Rattle.engines.specs.Ce.{sentOf, toldAll}
+use Rattle.engines.specs.declared.plan.Plan.{Plan}
+use Rattle.engines.specs.declared.turns.News.{News}
+use Rattle.engines.specs.declared.ce.Tellings.{Tellings}
+use Rattle.engines.specs.declared.capture.CeRound.{CeRound}
+use Rattle.engines.specs.declared.capture.CeState.{CeState}
+
+-- first every position is ticked
+unfoldable pub begun : CeRound → CeState → CeState
+begun conf c =
+    record {
+      nodes = tickedAll (conf .voting .n) (c .nodes);
+      held = c .held;
+      slot = c .slot;
+      «next_row» = c .«next_row»;
+      «bytes_sent» = c .«bytes_sent»;
+      draw = c .draw;
+      metrics = c .metrics;
+      ended = c .ended;
+    }
+
+-- On success the round ends at the next slot, and nothing is sent in this one.
+unfoldable pub goalMet : CeRound → CeState → CeState
+goalMet conf c =
+    record {
+      nodes = c .nodes;
+      held = c .held;
+      slot = inc (c .slot);
+      «next_row» = nextRow (c .«next_row») (conf .interval) (c .slot);
+      «bytes_sent» = c .«bytes_sent»;
+      draw = c .draw;
+      metrics = c .metrics;
+      ended = true;
+    }
+
+-- what the plan and the merges tell each position
+abbrev pub newsOf : Plan → Tellings → News
+newsOf p t = record { recovering = p .recovering; «new_info» = t .«new_info»; «goal_reached» = t .«goal_reached»; «can_sleep» = t .«can_sleep» }
+
+-- Coins and captures are planned, then all merge what was held at the slot's start, then states change.
+abbrev pub applied : CeRound → CeState → Plan → Tellings → CeState
+applied conf c p t =
+    record {
+      nodes = turnedAll (conf .voting .n) (c .slot) (newsOf p t) (c .nodes);
+      held = t .held;
+      slot = inc (c .slot);
+      «next_row» = nextRow (c .«next_row») (conf .interval) (c .slot);
+      «bytes_sent» = (c .«bytes_sent» + sentOf (setsOf (conf .voting .n) (c .nodes) .flooding) (c .held)) % 2 ^ 64;
+      draw = p .draw;
+      metrics = countedSlot p (c .metrics);
+      ended = false;
+    }
+
+abbrev pub planFor : List ℕ → List ℕ → CeRound → CeState → Plan
+planFor ws links conf c =
+    planOf ws (conf .«loss_rate») links (c .slot) (conf .«listen_timeout») (c .nodes) (setsOf (conf .voting .n) (c .nodes)) (c .draw)
+
+unfoldable pub acted : List ℕ → List ℕ → CeRound → CeState → CeState
+acted ws links conf c = applied conf c (planFor ws links conf c) (toldAll (conf .voting) (planFor ws links conf c .hears) (c .held))
+
+-- The goal test: all hold Committed, or all hold Aborted.
+unfoldable pub finished : List ℕ → List ℕ → CeRound → CeState → CeState
+finished ws links conf c = either (networkGoalOf (conf .voting .n) (c .held)) (goalMet conf c) (acted ws links conf c)
+
+unfoldable pub slotOf : List ℕ → List ℕ → CeRound → CeState → CeState
+slotOf ws links conf c = finished ws links conf (begun conf c)
+
+abbrev pub over : CeState → Bool
+over c = c .ended

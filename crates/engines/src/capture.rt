@@ -1,0 +1,127 @@
+// Ported from phy/ce.rs: a slot of a capture round, in two halves: up to its row, and from its goal test on; and its repetition.
+ghost use mathlib.Core.Path.{_≡_};
+ghost use Rattle.loops.specs.Runs.{runs};
+ghost use Rattle.engines.specs.Capture.{begun, goalMet, acted, finished, slotOf, over};
+use super::ce;
+use super::metrics::MetricsCollector;
+use super::node;
+use super::node::Node;
+use super::plan;
+use super::rows;
+use super::turns;
+use super::turns::News;
+use super::words::Draw;
+use packets::merging;
+use packets::merging::Payload;
+use packets::votes::Voting;
+
+// What a round goes by and never changes. The links stand beside it.
+pub struct CeRound {
+    pub voting: Voting,
+    pub listen_timeout: u64,
+    pub loss_rate: f64,
+    pub interval: u64,
+}
+
+// What a round changes. It is `ended` once the goal test was passed.
+pub struct CeState {
+    pub nodes: [Node; 64],
+    pub held: [Payload; 64],
+    pub slot: u64,
+    pub next_row: u64,
+    pub bytes_sent: u64,
+    pub draw: Draw,
+    pub metrics: MetricsCollector,
+    pub ended: bool,
+}
+
+// Every position is ticked in its state.
+pub fn begin(conf: CeRound, c: CeState) -> CeState
+    ensures { λ r. ⌜ r ≡ begun conf c ⌝ }
+{
+    let voting = conf.voting;
+    let nodes = c.nodes;
+    let mut d = c;
+    let ticked = node::tick_all(nodes, voting.n);
+    d.nodes = ticked;
+    d
+}
+
+// A slot in which all hold the same decision ends the round, and nobody acts in it.
+fn end(conf: CeRound, c: CeState) -> CeState
+    ensures { λ r. ⌜ r ≡ goalMet conf c ⌝ }
+{
+    let mut d = c;
+    d.slot = std::num::wrapping_add_u64(c.slot, 1);
+    d.next_row = rows::next_row(c.next_row, conf.interval, c.slot);
+    d.ended = true;
+    d
+}
+
+// The plan of the slot, applied to what all held at its start.
+fn act(words: &[u64], links: &[u64; 64], conf: CeRound, c: CeState) -> CeState
+    ensures { λ r. ⌜ r ≡ acted (now (words .entry)) (now (links .entry)) conf c ⌝ }
+{
+    let voting = conf.voting;
+    let nodes = c.nodes;
+    let held = c.held;
+    let draw = c.draw;
+    let metrics = c.metrics;
+    let s = node::state_sets(nodes, voting.n);
+    let p = plan::plan_slot(words, links, nodes, s, c.slot, conf.listen_timeout, conf.loss_rate, draw);
+    let hears = p.hears;
+    let t = ce::tell_all(voting, held, hears);
+    let w = News {
+        recovering: p.recovering,
+        new_info: t.new_info,
+        goal_reached: t.goal_reached,
+        can_sleep: t.can_sleep,
+    };
+    let after = t.held;
+    let e = p.draw;
+    CeState {
+        nodes: turns::turn_all(nodes, voting.n, c.slot, w),
+        held: after,
+        slot: std::num::wrapping_add_u64(c.slot, 1),
+        next_row: rows::next_row(c.next_row, conf.interval, c.slot),
+        bytes_sent: std::num::wrapping_add_u64(c.bytes_sent, ce::bytes_of(s.flooding, held)),
+        draw: e,
+        metrics: turns::count_slot(metrics, p),
+        ended: false,
+    }
+}
+
+// What follows the row of a slot.
+pub fn finish(words: &[u64], links: &[u64; 64], conf: CeRound, c: CeState) -> CeState
+    ensures { λ r. ⌜ r ≡ finished (now (words .entry)) (now (links .entry)) conf c ⌝ }
+{
+    let voting = conf.voting;
+    let held = c.held;
+    if merging::network_goal_reached(held, voting.n) {
+        return end(conf, c);
+    }
+    act(words, links, conf, c)
+}
+
+pub fn slot(words: &[u64], links: &[u64; 64], conf: CeRound, c: CeState) -> CeState
+    ensures { λ r. ⌜ r ≡ slotOf (now (words .entry)) (now (links .entry)) conf c ⌝ }
+{
+    let b = begin(conf, c);
+    finish(words, links, conf, b)
+}
+
+// At most k slots, without their rows.
+pub fn run_slots(words: &[u64], links: &[u64; 64], conf: CeRound, c: CeState, k: u64) -> CeState
+    ensures { λ r. ⌜ r ≡ runs over (slotOf (now (words .entry)) (now (links .entry)) conf) k c ⌝ }
+{
+    let mut d = c;
+    let mut left = k;
+    while 0 < left {
+        if d.ended {
+            return d;
+        }
+        d = slot(words, links, conf, d);
+        left -= 1;
+    }
+    d
+}
