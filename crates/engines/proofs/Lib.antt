@@ -9,3 +9,5 @@ pub mod Cursor
 pub mod Neighbours
 pub mod RowSums
 pub mod Telling
+pub mod Recording
+pub mod RowCounts

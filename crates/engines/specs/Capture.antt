@@ -1,11 +1,12 @@
 -- Document 01, "Capture round", a slot: tick, row, goal test, coins, captures, merges, next states. Assumes nothing.
 use Prim.Native.Nat.{ℕ, _+_, _%_, _^_}
 use mathlib.Core.Bool.{Bool, true, false}
-use mathlib.Core.List.{List}
+use mathlib.Core.List.{List, []}
 use Rattle.loops.specs.Pick.{either}
+use Rattle.loops.specs.Runs.{runs, told}
 use Rattle.packets.specs.Merging.{networkGoalOf}
 use Rattle.engines.specs.Nodes.{inc, tickedAll, setsOf}
-use Rattle.engines.specs.Rows.{nextRow}
+use Rattle.engines.specs.Rows.{isDue, nextRow, rowOf, cells}
 use Rattle.engines.specs.Plan.{planOf}
 use Rattle.engines.specs.Turns.{turnedAll, countedSlot}
 use Rattle.engines.specs.Ce.{sentOf, toldAll}
@@ -77,3 +78,14 @@ slotOf ws links conf c = finished ws links conf (begun conf c)
 
 abbrev pub over : CeState → Bool
 over c = c .ended
+
+-- The row of the slot that has begun, if one is due; it shows the slot at which it was due.
+unfoldable pub rowsDue : CeRound → CeState → List ℕ
+rowsDue conf c = either (isDue (c .«next_row») (c .slot)) (cells (rowOf (c .«next_row») (conf .voting .n) (c .nodes))) []
+
+unfoldable pub dueAfter : ℕ → CeState → ℕ
+dueAfter due c = either (isDue (c .«next_row») (c .slot)) (due + 1) due
+
+-- the rows of a round, one behind the other
+abbrev pub rowsOf : List ℕ → List ℕ → CeRound → ℕ → CeState → List ℕ
+rowsOf ws links conf k c = told over (slotOf ws links conf) (λ d. rowsDue conf (begun conf d)) k c

@@ -1,7 +1,10 @@
 // Ported from phy/ce.rs: a slot of a capture round, in two halves: up to its row, and from its goal test on; and its repetition.
 ghost use mathlib.Core.Path.{_≡_};
+ghost use Prim.Native.Nat.{_+_, _*_, _^_, _≤_, _<_};
+ghost use lib.ListN.{length};
+ghost use lib.Seq.{sets};
 ghost use Rattle.loops.specs.Runs.{runs};
-ghost use Rattle.engines.specs.Capture.{begun, goalMet, acted, finished, slotOf, over};
+ghost use Rattle.engines.specs.Capture.{begun, goalMet, acted, finished, slotOf, over, dueAfter, rowsDue, rowsOf};
 use super::ce;
 use super::metrics::MetricsCollector;
 use super::node;
@@ -121,6 +124,78 @@ pub fn run_slots(words: &[u64], links: &[u64; 64], conf: CeRound, c: CeState, k:
             return d;
         }
         d = slot(words, links, conf, d);
+        left -= 1;
+    }
+    d
+}
+
+// ---- rows: a run that only counts them, and one that writes them
+
+pub struct CeRun {
+    pub state: CeState,
+    pub due: u64,
+}
+
+// One more if a row is due in the slot that has begun.
+fn due_after(due: u64, c: CeState) -> u64
+    requires { ⌜ due + 1 < 2 ^ 64 ⌝ }
+    ensures { λ r. ⌜ r ≡ dueAfter due c ⌝ }
+{
+    if rows::row_due(c.next_row, c.slot) {
+        return due + 1;
+    }
+    due
+}
+
+// The round without its rows, and how many are due.
+fn dry_run(words: &[u64], links: &[u64; 64], conf: CeRound, c: CeState, k: u64) -> CeRun
+    ensures { λ r. ⌜ (r .state ≡ runs over (slotOf (now (words .entry)) (now (links .entry)) conf) k c) × (r .due * 5 ≡ length (rowsOf (now (words .entry)) (now (links .entry)) conf k c)) × (r .due ≤ k) ⌝ }
+{
+    let mut d = c;
+    let mut left = k;
+    let mut due: u64 = 0;
+    while 0 < left {
+        if d.ended {
+            return CeRun { state: d, due };
+        }
+        let b = begin(conf, d);
+        due = due_after(due, b);
+        d = finish(words, links, conf, b);
+        left -= 1;
+    }
+    CeRun { state: d, due }
+}
+
+// The row of this slot, if one is due, behind the numbers already used; how many are used then.
+fn put_due(rows: &mut [u64], used: usize, conf: CeRound, c: CeState) -> usize
+    requires { ⌜ used + length (rowsDue conf c) ≤ length (now rows) ⌝ }
+    ensures { λ r. ⌜ (r ≡ used + length (rowsDue conf c)) × (now (rows .exit) ≡ sets (now (rows .entry)) used (rowsDue conf c)) ⌝ }
+{
+    if rows::row_due(c.next_row, c.slot) {
+        let voting = conf.voting;
+        let nodes = c.nodes;
+        let r = rows::take_snapshot(c.next_row, nodes, voting.n);
+        rows::put_row(&mut rows[used..], r);
+        return used + 5;
+    }
+    used
+}
+
+// The round, with its rows written behind the numbers already used.
+fn record_run(words: &[u64], links: &[u64; 64], rows: &mut [u64], used: usize, conf: CeRound, c: CeState, k: u64) -> CeState
+    requires { ⌜ used + length (rowsOf (now words) (now links) conf k c) ≤ length (now rows) ⌝ }
+    ensures { λ r. ⌜ (r ≡ runs over (slotOf (now (words .entry)) (now (links .entry)) conf) k c) × (now (rows .exit) ≡ sets (now (rows .entry)) used (rowsOf (now (words .entry)) (now (links .entry)) conf k c)) ⌝ }
+{
+    let mut d = c;
+    let mut left = k;
+    let mut at = used;
+    while 0 < left {
+        if d.ended {
+            return d;
+        }
+        let b = begin(conf, d);
+        at = put_due(rows, at, conf, b);
+        d = finish(words, links, conf, b);
         left -= 1;
     }
     d

@@ -1,0 +1,72 @@
+-- What is left of a round that writes its rows: the loop's invariant, and one law for each of its needs. Assumes nothing.
+use Prim.Native.Nat.{ℕ, _+_, _-_, _≤_, _<_}
+use mathlib.Core.Bool.{true, false}
+use mathlib.Core.List.{List, [], _++_}
+use mathlib.Core.Path.{_≡_, refl, sym, ap, _∙_}
+use lib.ListN.{length, length-append}
+use lib.Seq.{sets, length-sets}
+use native.Mathlib.Omega.{arith}
+use Rattle.loops.specs.Runs.{runs, runs-none, runs-stop, runs-turn, told, told-none, told-stop, told-turn}
+use Rattle.engines.specs.Capture.{begun, finished, slotOf, over}
+use Rattle.loops.specs.Stores.{sets-append}
+use Rattle.engines.specs.Capture.{rowsDue, rowsOf}
+use Rattle.engines.specs.Rows.{isDue, cells, rowOf, putRow}
+use Rattle.engines.specs.declared.rows.Row.{Row}
+use borrow.Author.Tests.{le-ltb}
+use Rattle.engines.specs.declared.capture.CeRound.{CeRound}
+use Rattle.engines.specs.declared.capture.CeState.{CeState}
+
+-- k slots are left from t on, and `at` numbers of `rows` are used; the round is to end at v, with `final` in the buffer
+pub record Left (ws links : List ℕ) (conf : CeRound) (v : CeState) (final : List ℕ) (k : ℕ) (t : CeState) (at : ℕ) (rows : List ℕ) : Type 0 where
+  pub run : runs over (slotOf ws links conf) k t ≡ v
+  pub fits : at + length (rowsOf ws links conf k t) ≤ length rows
+  pub rest : sets rows at (rowsOf ws links conf k t) ≡ final
+
+module _ (ws links : List ℕ) (conf : CeRound) where
+  -- what is left to write is the row of this slot, and then what is left after it
+  pub split : {k : ℕ} (t : CeState) {b : CeState} → 0 < k → over t ≡ false → b ≡ begun conf t → rowsOf ws links conf k t ≡ rowsDue conf b ++ rowsOf ws links conf (k - 1) (finished ws links conf b)
+  unfolding slotOf
+  split t h s e = rw e (told-turn _ _ _ h s refl)
+
+  module _ {v : CeState} {final : List ℕ} {k : ℕ} {t : CeState} {at : ℕ} {rows : List ℕ} (l : Left ws links conf v final k t at rows) where
+    -- the row that is due fits
+    pub left-room : {b : CeState} → 0 < k → over t ≡ false → b ≡ begun conf t → at + length (rowsDue conf b) ≤ length rows
+    left-room {b} h s e =
+        omega (arith, l .fits, ap length (split t h s e), length-append (rowsDue conf b) (rowsOf ws links conf (k - 1) (finished ws links conf b)))
+
+    pub left-turn : {b t′ : CeState} {at′ : ℕ} {rows′ : List ℕ} → 0 < k → over t ≡ false → b ≡ begun conf t
+        → (at′ ≡ at + length (rowsDue conf b)) × (rows′ ≡ sets rows at (rowsDue conf b)) → t′ ≡ finished ws links conf b
+        → Left ws links conf v final (k - 1) t′ at′ rows′
+    unfolding slotOf
+    left-turn {b} h s e w et =
+        let due = rowsDue conf b in
+        let more = rowsOf ws links conf (k - 1) (finished ws links conf b) in
+        record {
+          run = runs-turn _ _ h s (et ∙ ap (finished ws links conf) e) (l .run);
+          fits = rw (w .0, w .1, et, length-sets) (omega (arith, l .fits, ap length (split t h s e), length-append due more));
+          rest = rw (w .0, w .1, et, sets-append due more rows at, ← split t h s e) (l .rest);
+        }
+
+    pub left-stop : 0 < k → over t ≡ true → (t ≡ v) × (rows ≡ final)
+    left-stop h s = (runs-stop _ _ h s (l .run), rw (told-stop _ _ _ t k s) at (l .rest))
+
+    pub left-none : k ≤ 0 → (t ≡ v) × (rows ≡ final)
+    left-none h = (runs-none _ _ h (l .run), rw (told-none _ _ _ t h) at (l .rest))
+
+    -- the buffer keeps its length
+    pub left-length : length rows ≡ length final
+    left-length = sym (length-sets rows at (rowsOf ws links conf k t)) ∙ ap length (l .rest)
+
+-- a row that is due, and one that is not
+pub due-yes : (conf : CeRound) (c : CeState) → isDue (c .«next_row») (c .slot) ≡ true → rowsDue conf c ≡ cells (rowOf (c .«next_row») (conf .voting .n) (c .nodes))
+unfolding rowsDue
+due-yes conf c e = rw e
+
+pub due-no : (conf : CeRound) (c : CeState) → isDue (c .«next_row») (c .slot) ≡ false → rowsDue conf c ≡ []
+unfolding rowsDue
+due-no conf c e = rw e
+
+-- a row in a part that holds it
+pub row-put : (part : List ℕ) (r : Row) → 5 ≤ length part → putRow part r ≡ sets part 0 (cells r)
+unfolding putRow
+row-put part r h = rw (le-ltb (length part) 5 h)
