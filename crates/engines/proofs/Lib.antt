@@ -11,3 +11,4 @@ pub mod RowSums
 pub mod Telling
 pub mod Recording
 pub mod RowCounts
+pub mod Settling

@@ -1,18 +1,17 @@
 -- What is left of a round that writes its rows: the loop's invariant, and one law for each of its needs. Assumes nothing.
-use Prim.Native.Nat.{ℕ, _+_, _-_, _≤_, _<_}
 use mathlib.Core.Bool.{true, false}
 use mathlib.Core.List.{List, [], _++_}
 use mathlib.Core.Path.{_≡_, refl, sym, ap, _∙_}
+use Prim.Native.Nat.{ℕ, _+_, _-_, _≤_, _<_}
+use native.Mathlib.Omega.{arith}
 use lib.ListN.{length, length-append}
 use lib.Seq.{sets, length-sets}
-use native.Mathlib.Omega.{arith}
-use Rattle.loops.specs.Runs.{runs, runs-none, runs-stop, runs-turn, told, told-none, told-stop, told-turn}
-use Rattle.engines.specs.Capture.{begun, finished, slotOf, over}
+use borrow.Author.Tests.{le-ltb}
+use Rattle.loops.specs.Runs.{runs, runs-none, runs-stop, runs-turn, told-none, told-stop, told-turn}
 use Rattle.loops.specs.Stores.{sets-append}
-use Rattle.engines.specs.Capture.{rowsDue, rowsOf}
+use Rattle.engines.specs.Capture.{begun, finished, slotOf, over, rowsDue, rowsOf}
 use Rattle.engines.specs.Rows.{isDue, cells, rowOf, putRow}
 use Rattle.engines.specs.declared.rows.Row.{Row}
-use borrow.Author.Tests.{le-ltb}
 use Rattle.engines.specs.declared.capture.CeRound.{CeRound}
 use Rattle.engines.specs.declared.capture.CeState.{CeState}
 

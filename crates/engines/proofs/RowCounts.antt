@@ -1,18 +1,16 @@
 -- What is left of a round that counts its rows: the loop's invariant, and one law for each of its needs. Assumes nothing.
-use Prim.Native.Nat.{ℕ, _+_, _-_, _*_, _≤_, _<_}
 use mathlib.Core.Bool.{Bool, true, false}
-use mathlib.Core.List.{List, [], _++_}
-use mathlib.Core.Path.{_≡_, refl, ap, _∙_}
-use lib.ListN.{length, length-append}
+use mathlib.Core.List.{List, []}
+use mathlib.Core.Path.{_≡_, ap, _∙_}
+use Prim.Native.Nat.{ℕ, _+_, _-_, _*_, _≤_, _<_}
 use native.Mathlib.Omega.{arith}
+use lib.ListN.{length, length-append}
 use Rattle.loops.specs.Runs.{runs, runs-none, runs-stop, runs-turn, told-none, told-stop}
 use Rattle.loops.specs.Pick.{either}
-use Rattle.engines.specs.Capture.{begun, finished, slotOf, over}
+use Rattle.engines.specs.Capture.{begun, finished, slotOf, over, rowsDue, rowsOf, dueAfter}
 use Rattle.engines.specs.declared.rows.Row.{Row}
 use Rattle.engines.specs.Rows.{isDue, cells, rowOf}
-use Rattle.engines.specs.Capture.{rowsDue, rowsOf}
 use Rattle.engines.proofs.Recording.{split}
-use Rattle.engines.specs.Capture.{dueAfter}
 use Rattle.engines.specs.declared.capture.CeRound.{CeRound}
 use Rattle.engines.specs.declared.capture.CeState.{CeState}
 

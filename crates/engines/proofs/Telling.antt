@@ -1,8 +1,8 @@
 -- What positions hear and hold, as the code comes to it. Assumes nothing.
-use mathlib.Core.Path.{_≡_, refl, sym, ap, _∙_}
+use mathlib.Core.Path.{_≡_, refl, ap, _∙_}
 use mathlib.Core.Bool.{Bool, true, false}
 use mathlib.Core.List.{List}
-use Prim.Native.Nat.{ℕ, _%_, _<_}
+use Prim.Native.Nat.{ℕ, _%_}
 use native.Mathlib.Nat.{mod-eq-of-lt}
 use lib.Dec.{ltb}
 use lib.ListN.{set, getD}
@@ -13,7 +13,7 @@ use Rattle.packets.specs.Merging.{mergeOf, redundant, nobody, goalOf, canSleepO
 use Rattle.packets.specs.declared.votes.Voting.{Voting}
 use Rattle.packets.specs.declared.merging.Payload.{Payload}
 use Rattle.packets.specs.declared.merging.Merged.{Merged}
-use Rattle.engines.specs.Ce.{isNews, hearingOf, notedIf, toldBy, toldAt}
+use Rattle.engines.specs.Ce.{isNews, hearingOf, notedIf, toldAt}
 use Rattle.engines.specs.declared.ce.Tellings.{Tellings}
 
 -- The code reads the sender's payload at the remainder by 64, which is its place if it is a place at all.

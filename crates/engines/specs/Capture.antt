@@ -1,20 +1,24 @@
 -- Document 01, "Capture round", a slot: tick, row, goal test, coins, captures, merges, next states. Assumes nothing.
-use Prim.Native.Nat.{ℕ, _+_, _%_, _^_}
 use mathlib.Core.Bool.{Bool, true, false}
 use mathlib.Core.List.{List, []}
+use Prim.Native.Nat.{ℕ, _+_, _*_, _/_, _%_, _^_}
+use lib.Dec.{eqb, ltb, leb}
+use lib.ListN.{length}
+use lib.Seq.{sets}
 use Rattle.loops.specs.Pick.{either}
 use Rattle.loops.specs.Runs.{runs, told}
 use Rattle.packets.specs.Merging.{networkGoalOf}
 use Rattle.engines.specs.Nodes.{inc, tickedAll, setsOf}
 use Rattle.engines.specs.Rows.{isDue, nextRow, rowOf, cells}
 use Rattle.engines.specs.Plan.{planOf}
-use Rattle.engines.specs.Turns.{turnedAll, countedSlot}
+use Rattle.engines.specs.Turns.{startedAll, turnedAll, countedSlot}
 use Rattle.engines.specs.Ce.{sentOf, toldAll}
 use Rattle.engines.specs.declared.plan.Plan.{Plan}
 use Rattle.engines.specs.declared.turns.News.{News}
 use Rattle.engines.specs.declared.ce.Tellings.{Tellings}
 use Rattle.engines.specs.declared.capture.CeRound.{CeRound}
 use Rattle.engines.specs.declared.capture.CeState.{CeState}
+use Rattle.engines.specs.declared.capture.CeAnswer.{CeAnswer}
 
 -- first every position is ticked
 unfoldable pub begun : CeRound → CeState → CeState
@@ -89,3 +93,42 @@ dueAfter due c = either (isDue (c .«next_row») (c .slot)) (due + 1) due
 -- the rows of a round, one behind the other
 abbrev pub rowsOf : List ℕ → List ℕ → CeRound → ℕ → CeState → List ℕ
 rowsOf ws links conf k c = told over (slotOf ws links conf) (λ d. rowsDue conf (begun conf d)) k c
+
+-- A round resets states: the initiator floods, the others listen; its words are drawn from the cursor on.
+unfoldable pub startOf : CeRound → ℕ → ℕ → CeState → CeState
+startOf conf initiator cursor c =
+    record {
+      nodes = startedAll (conf .voting .n) initiator (c .slot) (c .nodes);
+      held = c .held;
+      slot = c .slot;
+      «next_row» = c .«next_row»;
+      «bytes_sent» = c .«bytes_sent»;
+      draw = record { at = cursor; short = false };
+      metrics = c .metrics;
+      ended = false;
+    }
+
+-- the state after at most k slots
+unfoldable pub afterRound : List ℕ → List ℕ → CeRound → ℕ → CeState → CeState
+afterRound ws links conf k s = runs over (slotOf ws links conf) k s
+
+-- 15: start and full length pass slot 2^32 - 1. 16: run to its own end, the round draws more words than remain. 17: that run has more rows due than the
+-- unused part holds whole, or the used count is beyond the buffer. The lowest of these, and 0 for none.
+unfoldable pub refusalOf : List ℕ → List ℕ → ℕ → ℕ → CeRound → CeState → ℕ → ℕ
+refusalOf ws links len used conf s k =
+    either (ltb 4294967295 (s .slot + k)) 15
+    (either (afterRound ws links conf k s .draw .short) 16
+    (either (leb (used * 5 + length (rowsOf ws links conf k s)) len) 0 17))
+
+-- A refused round hands back its number and the state as it was.
+unfoldable pub answerOf : List ℕ → List ℕ → ℕ → ℕ → CeRound → CeState → ℕ → ℕ → ℕ → CeAnswer
+answerOf ws links len used conf c initiator cursor k =
+    let s = startOf conf initiator cursor c in
+    either (eqb (refusalOf ws links len used conf s k) 0)
+    (record { refusal = 0; state = afterRound ws links conf k s; used = used + length (rowsOf ws links conf k s) / 5 })
+    (record { refusal = refusalOf ws links len used conf s k; state = c; used = used })
+
+unfoldable pub bufferOf : List ℕ → List ℕ → List ℕ → ℕ → CeRound → CeState → ℕ → ℕ → ℕ → List ℕ
+bufferOf ws links rows used conf c initiator cursor k =
+    let s = startOf conf initiator cursor c in
+    either (eqb (refusalOf ws links (length rows) used conf s k) 0) (sets rows (used * 5) (rowsOf ws links conf k s)) rows

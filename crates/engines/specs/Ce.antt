@@ -1,8 +1,8 @@
 -- Document 01, "Capture round" and "Slots, counts, rows": what a slot's plan does to what positions hold, and the bytes that are sent.
 -- Assumes nothing.
-use Prim.Native.Nat.{ℕ, _+_, _%_, _^_}
 use mathlib.Core.Bool.{Bool, true, false}
 use mathlib.Core.List.{List}
+use Prim.Native.Nat.{ℕ, _+_, _%_, _^_}
 use lib.Dec.{ltb}
 use lib.ListN.{set, getD}
 use Rattle.loops.specs.Pick.{either}

@@ -1,10 +1,11 @@
 // Ported from phy/ce.rs: a slot of a capture round, in two halves: up to its row, and from its goal test on; and its repetition.
 ghost use mathlib.Core.Path.{_≡_};
 ghost use Prim.Native.Nat.{_+_, _*_, _^_, _≤_, _<_};
+ghost use lib.Dec.{ltb};
 ghost use lib.ListN.{length};
 ghost use lib.Seq.{sets};
 ghost use Rattle.loops.specs.Runs.{runs};
-ghost use Rattle.engines.specs.Capture.{begun, goalMet, acted, finished, slotOf, over, dueAfter, rowsDue, rowsOf};
+ghost use Rattle.engines.specs.Capture.{begun, goalMet, acted, finished, slotOf, over, dueAfter, rowsDue, rowsOf, startOf, answerOf, bufferOf};
 use super::ce;
 use super::metrics::MetricsCollector;
 use super::node;
@@ -71,7 +72,16 @@ fn act(words: &[u64], links: &[u64; 64], conf: CeRound, c: CeState) -> CeState
     let draw = c.draw;
     let metrics = c.metrics;
     let s = node::state_sets(nodes, voting.n);
-    let p = plan::plan_slot(words, links, nodes, s, c.slot, conf.listen_timeout, conf.loss_rate, draw);
+    let p = plan::plan_slot(
+        words,
+        links,
+        nodes,
+        s,
+        c.slot,
+        conf.listen_timeout,
+        conf.loss_rate,
+        draw,
+    );
     let hears = p.hears;
     let t = ce::tell_all(voting, held, hears);
     let w = News {
@@ -182,7 +192,15 @@ fn put_due(rows: &mut [u64], used: usize, conf: CeRound, c: CeState) -> usize
 }
 
 // The round, with its rows written behind the numbers already used.
-fn record_run(words: &[u64], links: &[u64; 64], rows: &mut [u64], used: usize, conf: CeRound, c: CeState, k: u64) -> CeState
+fn record_run(
+    words: &[u64],
+    links: &[u64; 64],
+    rows: &mut [u64],
+    used: usize,
+    conf: CeRound,
+    c: CeState,
+    k: u64,
+) -> CeState
     requires { ⌜ used + length (rowsOf (now words) (now links) conf k c) ≤ length (now rows) ⌝ }
     ensures { λ r. ⌜ (r ≡ runs over (slotOf (now (words .entry)) (now (links .entry)) conf) k c) × (now (rows .exit) ≡ sets (now (rows .entry)) used (rowsOf (now (words .entry)) (now (links .entry)) conf k c)) ⌝ }
 {
@@ -199,4 +217,116 @@ fn record_run(words: &[u64], links: &[u64; 64], rows: &mut [u64], used: usize, c
         left -= 1;
     }
     d
+}
+
+// ---- the round
+
+// What a round hands back: the refusal, 0 for none; the state, as it was if refused; how many rows are used.
+pub struct CeAnswer {
+    pub refusal: u64,
+    pub state: CeState,
+    pub used: usize,
+}
+
+// The start of a round: the last initiator floods, all others listen, and words are drawn from the cursor on.
+fn start(conf: CeRound, c: CeState, initiator: usize, cursor: usize) -> CeState
+    ensures { λ r. ⌜ r ≡ startOf conf initiator cursor c ⌝ }
+{
+    let voting = conf.voting;
+    let nodes = c.nodes;
+    let held = c.held;
+    let metrics = c.metrics;
+    CeState {
+        nodes: turns::start_capture(nodes, voting.n, initiator, c.slot),
+        held,
+        slot: c.slot,
+        next_row: c.next_row,
+        bytes_sent: c.bytes_sent,
+        draw: Draw {
+            at: cursor,
+            short: false,
+        },
+        metrics,
+        ended: false,
+    }
+}
+
+// Whether k slots more would pass slot 2^32 - 1. The difference stands for the sum, which could wrap.
+fn too_long(slot: u64, k: u64) -> bool
+    ensures { λ r. ⌜ r ≡ ltb 4294967295 (slot + k) ⌝ }
+{
+    if 4294967295 < k {
+        return true;
+    }
+    if 4294967295 - k < slot {
+        return true;
+    }
+    false
+}
+
+fn ran_short(c: CeState) -> bool
+    ensures { λ r. ⌜ r ≡ c .draw .short ⌝ }
+{
+    let d = c.draw;
+    d.short
+}
+
+fn refuse(refusal: u64, c: CeState, used: usize) -> CeAnswer
+    ensures { λ r. ⌜ r ≡ record { refusal = refusal; state = c; used = used } ⌝ }
+{
+    CeAnswer {
+        refusal,
+        state: c,
+        used,
+    }
+}
+
+// A round of at most k slots, its rows written behind the rows already used. 15: its full length would pass the last slot; 16: it draws
+// more words than there are behind the cursor; 17: its rows do not fit. A refused round changes nothing. The rows due are counted first, and the
+// round is run again only if there are any.
+pub fn run_ce_round(
+    words: &[u64],
+    links: &[u64; 64],
+    rows: &mut [u64],
+    used: usize,
+    conf: CeRound,
+    c: CeState,
+    initiator: usize,
+    cursor: usize,
+    k: u64,
+) -> CeAnswer
+    ensures { λ r. ⌜ r ≡ answerOf (now (words .entry)) (now (links .entry)) (length (now (rows .entry))) used conf c initiator cursor k ⌝ }
+    ensures { λ _. ⌜ now (rows .exit) ≡ bufferOf (now (words .entry)) (now (links .entry)) (now (rows .entry)) used conf c initiator cursor k ⌝ }
+{
+    if too_long(c.slot, k) {
+        return refuse(15, c, used);
+    }
+    let s = start(conf, c, initiator, cursor);
+    let d = dry_run(words, links, conf, s, k);
+    let e = d.state;
+    if ran_short(e) {
+        return refuse(16, c, used);
+    }
+    let whole = rows.len() / 5;
+    if whole < used {
+        return refuse(17, c, used);
+    }
+    let due = d.due as usize;
+    if whole - used < due {
+        return refuse(17, c, used);
+    }
+    if due == 0 {
+        return CeAnswer {
+            refusal: 0,
+            state: e,
+            used,
+        };
+    }
+    let at = used * 5;
+    let t = record_run(words, links, rows, at, conf, s, k);
+    CeAnswer {
+        refusal: 0,
+        state: t,
+        used: used + due,
+    }
 }
