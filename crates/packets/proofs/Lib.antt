@@ -16,3 +16,5 @@ pub mod Parts
 pub mod Promises
 pub mod Asked
 pub mod Desks
+pub mod Proposing
+pub mod Texting
