@@ -18,3 +18,4 @@ pub mod Asked
 pub mod Desks
 pub mod Proposing
 pub mod Texting
+pub mod Staying

@@ -1,5 +1,5 @@
 -- What a packet may claim of the votes of its term, and what merging keeps: the laws on which demand 3's agreement rests.
--- Assumes nothing: these are definitions and statements. They are proved in Safety, Growth, Marking, Limits and Proposing of proofs/.
+-- Assumes nothing: these are definitions and statements. They are proved in Safety, Growth, Marking, Staying, Limits and Proposing of proofs/.
 use mathlib.Core.Path.{_≡_}
 use mathlib.Core.Bool.{Bool, true, false, not, _&&_, _||_}
 use mathlib.Core.Logic.{_⊎_}
@@ -106,6 +106,12 @@ abbrev pub MarksFrom : Type 0
 MarksFrom =
     (nay : Noes) (n v : ℕ) (l r : Payload) → mergeOf nay n v l r .payload .held ≡ Packet → (i : ℕ) → entry (leaves nay n v l r .«flags_bitmap») i ≡ true
     → (entry (l .packet .«flags_bitmap») i ≡ true) ⊎ ((entry (r .packet .«flags_bitmap») i ≡ true) ⊎ (i ≡ v))
+
+-- within a term and a phase no mark is lost
+abbrev pub MarksStay : Type 0
+MarksStay =
+    (nay : Noes) (n v : ℕ) (l r : Payload) → l .held ≡ Packet → leaves nay n v l r .term ≡ l .packet .term → leaves nay n v l r .phase ≡ l .packet .phase
+    → (i : ℕ) → i < 64 → entry (l .packet .«flags_bitmap») i ≡ true → entry (leaves nay n v l r .«flags_bitmap») i ≡ true
 
 -- what was news has the own mark
 abbrev pub OwnMark : Type 0
