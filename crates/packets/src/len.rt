@@ -67,15 +67,24 @@ pub(crate) fn bitmap_len(b: Bitmap) -> usize
     }
 }
 
+fn small_len(b: u8) -> usize
+    ensures { λ r. ⌜ (r ≡ length (decimal b)) × (r ≤ 3) ⌝ }
+{
+    if b < 10 {
+        return 1;
+    }
+    if b < 100 { 2 } else { 3 }
+}
+
 // A byte and what stands before it.
 fn bytes_len(d: &[u8], n: usize) -> usize
     requires { ⌜ (n ≤ 32) × (n ≤ length (now d)) ⌝ }
-    ensures { λ r. ⌜ (r ≡ length (itemsText decimal (take n (now (d .entry))))) × (r ≤ 673) ⌝ }
+    ensures { λ r. ⌜ (r ≡ length (itemsText decimal (take n (now (d .entry))))) × (r ≤ 129) ⌝ }
 {
     let mut len = 1;
     let mut i = 0;
     while i < n {
-        len = len + 1 + decimal_len(d[i] as u64);
+        len = len + 1 + small_len(d[i]);
         i += 1;
     }
     len
@@ -83,7 +92,7 @@ fn bytes_len(d: &[u8], n: usize) -> usize
 
 pub(crate) fn data_len(d: Data) -> usize
     requires { ⌜ d .len ≤ 32 ⌝ }
-    ensures { λ r. ⌜ (r ≡ length (dataText d)) × (r ≤ 673) ⌝ }
+    ensures { λ r. ⌜ (r ≡ length (dataText d)) × (r ≤ 129) ⌝ }
 {
     let bytes = d.bytes;
     if d.len == 0 {

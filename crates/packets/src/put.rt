@@ -100,6 +100,23 @@ pub(crate) fn put_bitmap(buf: &mut [u8], at: usize, b: Bitmap) -> usize
     }
 }
 
+// A byte in decimal: at most three digits, so with no recursion.
+fn put_small(buf: &mut [u8], at: usize, b: u8) -> usize
+    requires { ⌜ Room (now buf) at (decimal b) ⌝ }
+    ensures { λ r. ⌜ Put (now (buf .entry)) at (decimal b) r (now (buf .exit)) ⌝ }
+{
+    if b < 10 {
+        return put_byte(buf, at, b % 10 + 48);
+    }
+    if b < 100 {
+        let o = put_byte(buf, at, b / 10 + 48);
+        return put_byte(buf, o, b % 10 + 48);
+    }
+    let o = put_byte(buf, at, b / 100 + 48);
+    let p = put_byte(buf, o, b / 10 % 10 + 48);
+    put_byte(buf, p, b % 10 + 48)
+}
+
 // What follows the first of n bytes.
 fn put_rest(buf: &mut [u8], at: usize, d: &[u8], n: usize) -> usize
     requires { ⌜ (0 < n) × (n ≤ length (now d)) × Room (now buf) at (itemsText decimal (drop 1 (take n (now d)))) ⌝ }
@@ -109,7 +126,7 @@ fn put_rest(buf: &mut [u8], at: usize, d: &[u8], n: usize) -> usize
     let mut i = 1;
     while i < n {
         o = put_byte(buf, o, b',');
-        o = put_decimal(buf, o, d[i] as u64);
+        o = put_small(buf, o, d[i]);
         i += 1;
     }
     put_byte(buf, o, b']')
@@ -124,7 +141,7 @@ fn put_bytes(buf: &mut [u8], at: usize, d: &[u8], n: usize) -> usize
         put_all(buf, at, b"[]")
     } else {
         let first = put_byte(buf, at, b'[');
-        let o = put_decimal(buf, first, d[0] as u64);
+        let o = put_small(buf, first, d[0]);
         put_rest(buf, o, d, n)
     }
 }

@@ -1,18 +1,13 @@
 use borrow.Author.Tests.{eq-eqb, ne-eqb}
 use Rattle.packets.proofs.console.phase_numbered.Statement.{statement}
 use Rattle.packets.proofs.console.phase_numbered.Tie as tie
-use Rattle.packets.proofs.console.phase_numbered.Reads as reads
-use Rattle.packets.proofs.console.phase_numbered.Lts as lts
 
--- src/console.rt:36:9
 returns : tie.Need-returns
 returns c = rw (eq-eqb (c .before .args .n) 0 (c .if1 .taken))
 
--- src/console.rt:39:9
 returns-2 : tie.Need-returns-2
 returns-2 c = rw (ne-eqb (c .before .before .args .n) 0 (c .before .if1 .left), eq-eqb (c .before .before .args .n) 1 (c .if2 .taken))
 
--- src/console.rt:32:1
 returns-3 : tie.Need-returns-3
 returns-3 c = rw (ne-eqb (c .before .before .args .n) 0 (c .before .if1 .left), ne-eqb (c .before .before .args .n) 1 (c .if2 .left))
 

@@ -2,39 +2,25 @@ use borrow.Author.Needs.{needs}
 use Rattle.packets.specs.Console.{pipelineNumbers}
 use Rattle.packets.proofs.console.pipeline_numbers.Statement.{statement}
 use Rattle.packets.proofs.console.pipeline_numbers.Tie as tie
-use Rattle.packets.proofs.console.pipeline_numbers.Reads as reads
-use Rattle.packets.proofs.console.pipeline_numbers.Lts as lts
-use Rattle.packets.proofs.console.phase_number.Reads as phase-number-reads
-use Rattle.packets.proofs.console.state_number.Reads as state-number-reads
-use Rattle.packets.proofs.console.state_there.Reads as state-there-reads
-use Rattle.packets.proofs.console.tx_number.Reads as tx-number-reads
-use Rattle.packets.proofs.console.tx_there.Reads as tx-there-reads
 
--- src/console.rt:145:9
 phase-number-requires : tie.Need-phase-number-requires
 phase-number-requires c κs = search needs
 
--- src/console.rt:148:9
 cast-t9 : tie.Need-cast-t9
 cast-t9 c = search needs
 
--- src/console.rt:152:9
 tx-there-requires : tie.Need-tx-there-requires
 tx-there-requires c κs = search needs
 
--- src/console.rt:153:9
 tx-number-requires : tie.Need-tx-number-requires
 tx-number-requires c κs = search needs
 
--- src/console.rt:154:9
 state-there-requires : tie.Need-state-there-requires
 state-there-requires c κs = search needs
 
--- src/console.rt:155:9
 state-number-requires : tie.Need-state-number-requires
 state-number-requires c κs = search needs
 
--- src/console.rt:135:1
 returns : tie.Need-returns
 unfolding pipelineNumbers
 returns c = rw (c .before .before .before .before .before .phase-number .ensures, c .before .before .before .tx-there .ensures, c .before .before .tx-number .ensures, c .before .state-there .ensures, c .state-number .ensures)

@@ -8,54 +8,37 @@ use Rattle.packets.specs.declared.PipelineRead.{PipelineRead}
 use Rattle.texts.specs.Put.{put-as}
 use Rattle.packets.proofs.console.pipeline_packet_read.Statement.{statement}
 use Rattle.packets.proofs.console.pipeline_packet_read.Tie as tie
-use Rattle.packets.proofs.console.pipeline_packet_read.Reads as reads
-use Rattle.packets.proofs.console.pipeline_packet_read.Lts as lts
-use Rattle.packets.proofs.console.pipeline_numbers.Reads as pipeline-numbers-reads
-use Rattle.packets.proofs.console.put_kept.Reads as put-kept-reads
-use Rattle.packets.proofs.console.put_words.Reads as put-words-reads
-use Rattle.packets.proofs.two_pc_pipeline.read_pipeline_packet.Reads as read-pipeline-packet-reads
 
--- src/console.rt:345:9
 returns : tie.Need-returns
 returns c = told-no (pipelineNumbers (pipelineTold (c .before .before .before .before .args .text .now) (c .before .before .before .before .args .text-len) (length (c .before .before .before .before .args .numbers .now)) (length (c .before .before .before .before .args .bytes .now)) .packet)) (pipelineTold (c .before .before .before .before .args .text .now) (c .before .before .before .before .args .text-len) (length (c .before .before .before .before .args .numbers .now)) (length (c .before .before .before .before .args .bytes .now)) .packet .«transaction_data» .bytes) (c .before .before .before .before .args .numbers .now) (c .before .before .before .before .args .bytes .now) (pipeline-few (c .before .before .before .before .args .text .now) (c .before .before .before .before .args .text-len) (length (c .before .before .before .before .args .numbers .now)) (length (c .before .before .before .before .args .bytes .now)) (c .if1 .taken)) (omega arith)
 
--- src/console.rt:348:9
 returns-2 : tie.Need-returns-2
 returns-2 c = told-no (pipelineNumbers (pipelineTold (c .before .before .before .before .before .args .text .now) (c .before .before .before .before .before .args .text-len) (length (c .before .before .before .before .before .args .numbers .now)) (length (c .before .before .before .before .before .args .bytes .now)) .packet)) (pipelineTold (c .before .before .before .before .before .args .text .now) (c .before .before .before .before .before .args .text-len) (length (c .before .before .before .before .before .args .numbers .now)) (length (c .before .before .before .before .before .args .bytes .now)) .packet .«transaction_data» .bytes) (c .before .before .before .before .before .args .numbers .now) (c .before .before .before .before .before .args .bytes .now) (pipeline-short-bytes (c .before .before .before .before .before .args .text .now) (c .before .before .before .before .before .args .text-len) (length (c .before .before .before .before .before .args .numbers .now)) (length (c .before .before .before .before .before .args .bytes .now)) (c .before .if1 .left) (c .if2 .taken)) (omega arith)
 
--- src/console.rt:350:9
 read-pipeline-packet-requires : tie.Need-read-pipeline-packet-requires
 read-pipeline-packet-requires c κs = search needs
 
--- src/console.rt:352:9
 returns-3 : tie.Need-returns-3
 returns-3 c = told-no (pipelineNumbers (pipelineTold (c .before .before .before .before .before .before .before .before .args .text .now) (c .before .before .before .before .before .before .before .before .args .text-len) (length (c .before .before .before .before .before .before .before .before .args .numbers .now)) (length (c .before .before .before .before .before .before .before .before .args .bytes .now)) .packet)) (pipelineTold (c .before .before .before .before .before .before .before .before .args .text .now) (c .before .before .before .before .before .before .before .before .args .text-len) (length (c .before .before .before .before .before .before .before .before .args .numbers .now)) (length (c .before .before .before .before .before .before .before .before .args .bytes .now)) .packet .«transaction_data» .bytes) (c .before .before .before .before .before .before .before .before .args .numbers .now) (c .before .before .before .before .before .before .before .before .args .bytes .now) (ap (λ (x : PipelineRead). x .refusal) (c .before .before .read-pipeline-packet .ensures ∙ pipeline-as-read (c .before .before .before .before .before .before .before .before .args .text .now) (c .before .before .before .before .before .before .before .before .args .text-len) (length (c .before .before .before .before .before .before .before .before .args .numbers .now)) (length (c .before .before .before .before .before .before .before .before .args .bytes .now)) (c .before .before .before .before .if1 .left) (c .before .before .before .if2 .left))) (c .if3 .taken)
 
--- src/console.rt:356:13
 pipeline-numbers-requires : tie.Need-pipeline-numbers-requires
 pipeline-numbers-requires c κs = search needs
 
--- src/console.rt:357:27
 slice-aggregate-put-words : tie.Need-slice-aggregate-put-words
 slice-aggregate-put-words c = search needs
 
--- src/console.rt:357:5
 put-words-requires : tie.Need-put-words-requires
 put-words-requires c κs = record { room = omega (arith, slice-aggregate-put-words c, c .before .before .before .before .before .before .before .before .before .if1 .left) }
 
--- src/console.rt:358:5
 put-kept-requires : tie.Need-put-kept-requires
 put-kept-requires c κs = omega (arith, c .before .before .before .before .before .before .before .before .before .before .before .before .if2 .left)
 
--- src/console.rt:338:1
 same-length : tie.Need-same-length
 same-length c = search needs
 
--- src/console.rt:338:1
 same-length-2 : tie.Need-same-length-2
 same-length-2 c = search needs
 
--- src/console.rt:338:1
 returns-4 : tie.Need-returns-4
 returns-4 c = told-yes (sym (ap (λ (x : PipelineRead). x .refusal) (c .before .before .before .before .before .before .before .before .before .before .before .before .before .before .read-pipeline-packet .ensures ∙ pipeline-as-read (c .before .before .before .before .before .before .before .before .before .before .before .before .before .before .before .before .before .before .before .before .args .text .now) (c .before .before .before .before .before .before .before .before .before .before .before .before .before .before .before .before .before .before .before .before .args .text-len) (length (c .before .before .before .before .before .before .before .before .before .before .before .before .before .before .before .before .before .before .before .before .args .numbers .now)) (length (c .before .before .before .before .before .before .before .before .before .before .before .before .before .before .before .before .before .before .before .before .args .bytes .now)) (c .before .before .before .before .before .before .before .before .before .before .before .before .before .before .before .before .if1 .left) (c .before .before .before .before .before .before .before .before .before .before .before .before .before .before .before .if2 .left))) ∙ c .before .before .before .before .before .before .before .before .before .before .before .before .if3 .left) (put-as (c .before .before .before .before .before .before .before .before .before .pipeline-numbers .ensures ∙ ap (λ (x : PipelineRead). pipelineNumbers (x .packet)) (c .before .before .before .before .before .before .before .before .before .before .before .before .before .before .read-pipeline-packet .ensures ∙ pipeline-as-read (c .before .before .before .before .before .before .before .before .before .before .before .before .before .before .before .before .before .before .before .before .args .text .now) (c .before .before .before .before .before .before .before .before .before .before .before .before .before .before .before .before .before .before .before .before .args .text-len) (length (c .before .before .before .before .before .before .before .before .before .before .before .before .before .before .before .before .before .before .before .before .args .numbers .now)) (length (c .before .before .before .before .before .before .before .before .before .before .before .before .before .before .before .before .before .before .before .before .args .bytes .now)) (c .before .before .before .before .before .before .before .before .before .before .before .before .before .before .before .before .if1 .left) (c .before .before .before .before .before .before .before .before .before .before .before .before .before .before .before .if2 .left))) (c .before .before .before .before .before .before .put-words .ensures)) (put-as (ap (λ (x : PipelineRead). x .packet .«transaction_data» .bytes) (c .before .before .before .before .before .before .before .before .before .before .before .before .before .before .read-pipeline-packet .ensures ∙ pipeline-as-read (c .before .before .before .before .before .before .before .before .before .before .before .before .before .before .before .before .before .before .before .before .args .text .now) (c .before .before .before .before .before .before .before .before .before .before .before .before .before .before .before .before .before .before .before .before .args .text-len) (length (c .before .before .before .before .before .before .before .before .before .before .before .before .before .before .before .before .before .before .before .before .args .numbers .now)) (length (c .before .before .before .before .before .before .before .before .before .before .before .before .before .before .before .before .before .before .before .before .args .bytes .now)) (c .before .before .before .before .before .before .before .before .before .before .before .before .before .before .before .before .if1 .left) (c .before .before .before .before .before .before .before .before .before .before .before .before .before .before .before .if2 .left))) (c .before .before .put-kept .ensures))
 

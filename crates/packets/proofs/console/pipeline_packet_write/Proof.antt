@@ -3,36 +3,25 @@ use Rattle.packets.proofs.Asked.{write-no, write-refused, write-yes}
 use Rattle.packets.specs.Packets.{pipelineText, pipelineWithin}
 use Rattle.packets.proofs.console.pipeline_packet_write.Statement.{statement}
 use Rattle.packets.proofs.console.pipeline_packet_write.Tie as tie
-use Rattle.packets.proofs.console.pipeline_packet_write.Reads as reads
-use Rattle.packets.proofs.console.pipeline_packet_write.Lts as lts
-use Rattle.packets.proofs.console.pipeline_asked.Reads as pipeline-asked-reads
-use Rattle.packets.proofs.two_pc_pipeline.write_pipeline_packet.Reads as write-pipeline-packet-reads
 
--- src/console.rt:362:9
 pipeline-asked-requires : tie.Need-pipeline-asked-requires
 pipeline-asked-requires c κs = search needs
 
--- src/console.rt:364:9
 returns : tie.Need-returns
 returns c = rw (← c .before .before .pipeline-asked .ensures) (write-no (pipelineWithin (c .before .before .pipeline-asked .result .packet)) (pipelineText (c .before .before .pipeline-asked .result .packet)) (c .before .before .before .before .before .before .args .buf .now) (c .before .before .before .before .before .before .args .at) (c .before .before .pipeline-asked .result .refusal) (c .before .before .before .before .before .before .args .next .now) (c .if1 .taken))
 
--- src/console.rt:367:9
 write-pipeline-packet-requires : tie.Need-write-pipeline-packet-requires
 write-pipeline-packet-requires c κs = search needs
 
--- src/console.rt:369:9
 same-length : tie.Need-same-length
 same-length c = search needs
 
--- src/console.rt:369:9
 returns-2 : tie.Need-returns-2
 returns-2 c = rw (← c .before .before .before .before .before .before .before .before .before .pipeline-asked .ensures) (write-refused (pipelineWithin (c .before .before .before .before .before .before .before .before .before .pipeline-asked .result .packet)) (pipelineText (c .before .before .before .before .before .before .before .before .before .pipeline-asked .result .packet)) (c .before .before .before .before .before .before .before .before .before .before .before .before .before .args .buf .now) (c .before .before .before .before .before .before .before .before .before .before .before .before .before .args .at) (c .before .before .before .before .before .before .before .before .before .pipeline-asked .result .refusal) (c .before .before .before .before .before .before .before .before .before .before .before .before .before .args .next .now) (c .before .before .before .before .before .before .before .if1 .left) (c .before .before .before .before .write-pipeline-packet .ensures .0) (c .before .before .before .before .write-pipeline-packet .ensures .1) (c .if2 .taken))
 
--- src/console.rt:356:1
 same-length-2 : tie.Need-same-length-2
 same-length-2 c = search needs
 
--- src/console.rt:356:1
 returns-3 : tie.Need-returns-3
 returns-3 c = rw (← c .before .before .before .before .before .before .before .before .before .pipeline-asked .ensures) (write-yes (pipelineWithin (c .before .before .before .before .before .before .before .before .before .pipeline-asked .result .packet)) (pipelineText (c .before .before .before .before .before .before .before .before .before .pipeline-asked .result .packet)) (c .before .before .before .before .before .before .before .before .before .before .before .before .before .args .buf .now) (c .before .before .before .before .before .before .before .before .before .before .before .before .before .args .at) (c .before .before .before .before .before .before .before .before .before .pipeline-asked .result .refusal) (c .before .before .before .before .before .before .before .before .before .before .before .before .before .args .next .now) (c .before .before .before .before .before .before .before .if1 .left) (c .before .before .before .before .write-pipeline-packet .ensures .0) (c .before .before .before .before .write-pipeline-packet .ensures .1) (c .if2 .left))
 

@@ -2,23 +2,16 @@ use native.Mathlib.Omega.{arith}
 use borrow.Author.Needs.{needs}
 use Rattle.packets.proofs.console.put_kept.Statement.{statement}
 use Rattle.packets.proofs.console.put_kept.Tie as tie
-use Rattle.packets.proofs.console.put_kept.Reads as reads
-use Rattle.packets.proofs.console.put_kept.Lts as lts
-use Rattle.packets.proofs.put.put_all.Reads as put-all-reads
 
--- src/console.rt:165:26
 slice-aggregate-put-all : tie.Need-slice-aggregate-put-all
 slice-aggregate-put-all c = search needs
 
--- src/console.rt:165:5
 put-all-requires : tie.Need-put-all-requires
 put-all-requires c κs = record { room = omega (arith, slice-aggregate-put-all c, c .before .before .before .before .pre) }
 
--- src/console.rt:160:1
 same-length : tie.Need-same-length
 same-length c = search needs
 
--- src/console.rt:160:1
 returns : tie.Need-returns
 returns c = c .before .before .put-all .ensures
 

@@ -2,26 +2,19 @@ use borrow.Author.Needs.{needs}
 use Rattle.texts.specs.Put.{put-byte}
 use Rattle.packets.proofs.console.put_word.Statement.{statement}
 use Rattle.packets.proofs.console.put_word.Tie as tie
-use Rattle.packets.proofs.console.put_word.Reads as reads
-use Rattle.packets.proofs.console.put_word.Lts as lts
 
--- src/console.rt:103:5
 mul-out : tie.Need-mul-out
 mul-out c = search needs
 
--- src/console.rt:103:5
 slice-write-out : tie.Need-slice-write-out
 slice-write-out c = search needs
 
--- src/console.rt:104:5
 add-result : tie.Need-add-result
 add-result c = search needs
 
--- src/console.rt:99:1
 same-length : tie.Need-same-length
 same-length c = search needs
 
--- src/console.rt:99:1
 returns : tie.Need-returns
 returns c = put-byte (c .args .out .now) (c .args .at) (c .args .n) (c .pre)
 

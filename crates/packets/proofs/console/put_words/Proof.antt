@@ -8,9 +8,6 @@ use lib.Seq.{take-suc, take-all, length-take-le}
 use Rattle.texts.specs.Put.{Put, put-as, put-more, put-none}
 use Rattle.packets.proofs.console.put_words.Statement.{statement}
 use Rattle.packets.proofs.console.put_words.Tie as tie
-use Rattle.packets.proofs.console.put_words.Reads as reads
-use Rattle.packets.proofs.console.put_words.Lts as lts
-use Rattle.packets.proofs.console.put_word.Reads as put-word-reads
 
 abbrev Inv-loop : tie.InvT-loop
 Inv-loop out₀ at src j₀ o₀ out j o = (j ≤ length src) × (length out ≡ length out₀) × Put out₀ at (take j src) o out
@@ -18,39 +15,30 @@ Inv-loop out₀ at src j₀ o₀ out j o = (j ≤ length src) × (length out ≡
 abbrev μ-loop : tie.MeasureT-loop
 μ-loop out₀ at src j₀ o₀ out j o = length src - j
 
--- src/console.rt:113:5
 loop-holds : tie.Need-loop-holds Inv-loop μ-loop
 loop-holds c = (omega arith, refl, put-none (c .before .before .args .out .now) (c .before .before .args .at))
 
--- src/console.rt:114:30
 mul-put-word : tie.Need-mul-put-word Inv-loop μ-loop
 mul-put-word c = search needs
 
--- src/console.rt:114:30
 shared-slice-read-put-word : tie.Need-shared-slice-read-put-word Inv-loop μ-loop
 shared-slice-read-put-word c = omega arith
 
--- src/console.rt:114:9
 put-word-requires : tie.Need-put-word-requires Inv-loop μ-loop
 put-word-requires c κs = omega (arith, length-take-le (c .before .before .before .loop .j) (c .before .before .before .before .before .before .args .src .now) (c .before .before .before .loop .inv .0), c .before .before .before .loop .inv .2 .next, c .before .before .before .before .before .before .pre .room)
 
--- src/console.rt:115:9
 add-j : tie.Need-add-j Inv-loop μ-loop
 add-j c = omega arith
 
--- src/console.rt:113:5
 loop-less : tie.Need-loop-less Inv-loop μ-loop
 loop-less c = omega arith
 
--- src/console.rt:113:5
 loop-again : tie.Need-loop-again Inv-loop μ-loop
 loop-again c = (omega arith, c .before .before .put-word .kept .0 ∙ c .before .before .before .before .before .before .loop .inv .1, put-as (sym (rw add-one (take-suc (c .before .before .before .before .before .before .before .before .before .args .src .now) (c .before .before .before .before .before .before .loop .j) 0 (omega arith)))) (put-more (omega (arith, c .before .before .before .before .before .before .before .before .before .pre .room)) (c .before .before .before .before .before .before .loop .inv .2) (c .before .before .put-word .ensures)))
 
--- src/console.rt:107:1
 same-length : tie.Need-same-length Inv-loop μ-loop
 same-length c = c .before .loop .inv .1
 
--- src/console.rt:107:1
 returns : tie.Need-returns Inv-loop μ-loop
 returns c = put-as (take-all (c .before .loop .j) (c .before .before .before .before .args .src .now) (c .loop-test .left)) (c .before .loop .inv .2)
 

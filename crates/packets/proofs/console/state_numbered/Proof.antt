@@ -2,19 +2,13 @@ use borrow.Author.Needs.{needs}
 use borrow.Author.Tests.{eq-eqb, ne-eqb}
 use Rattle.packets.proofs.console.state_numbered.Statement.{statement}
 use Rattle.packets.proofs.console.state_numbered.Tie as tie
-use Rattle.packets.proofs.console.state_numbered.Reads as reads
-use Rattle.packets.proofs.console.state_numbered.Lts as lts
-use Rattle.packets.proofs.console.phase_numbered.Reads as phase-numbered-reads
 
--- src/console.rt:93:9
 returns : tie.Need-returns
 returns c = rw (eq-eqb (c .before .args .there) 0 (c .if1 .taken))
 
--- src/console.rt:95:9
 phase-numbered-requires : tie.Need-phase-numbered-requires
 phase-numbered-requires c κs = search needs
 
--- src/console.rt:89:1
 returns-2 : tie.Need-returns-2
 returns-2 c = rw (ne-eqb (c .before .before .args .there) 0 (c .before .if1 .left), c .phase-numbered .ensures)
 

@@ -1,14 +1,10 @@
 use borrow.Author.Tests.{eq-eqb, ne-eqb}
 use Rattle.packets.proofs.console.tx_numbered.Statement.{statement}
 use Rattle.packets.proofs.console.tx_numbered.Tie as tie
-use Rattle.packets.proofs.console.tx_numbered.Reads as reads
-use Rattle.packets.proofs.console.tx_numbered.Lts as lts
 
--- src/console.rt:66:9
 returns : tie.Need-returns
 returns c = rw (eq-eqb (c .before .args .there) 0 (c .if1 .taken))
 
--- src/console.rt:62:1
 returns-2 : tie.Need-returns-2
 returns-2 c = rw (ne-eqb (c .before .args .there) 0 (c .if1 .left))
 

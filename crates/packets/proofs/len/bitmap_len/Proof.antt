@@ -3,19 +3,13 @@ use borrow.Author.Needs.{needs}
 use Rattle.packets.proofs.Texts.{bitmap-len-none, bitmap-len-more}
 use Rattle.packets.proofs.len.bitmap_len.Statement.{statement}
 use Rattle.packets.proofs.len.bitmap_len.Tie as tie
-use Rattle.packets.proofs.len.bitmap_len.Reads as reads
-use Rattle.packets.proofs.len.bitmap_len.Lts as lts
-use Rattle.packets.proofs.len.marks_len.Reads as marks-len-reads
 
--- src/len.rt:63:32
 marks-len-requires : tie.Need-marks-len-requires
 marks-len-requires c κs = search needs
 
--- src/len.rt:59:1
 returns : tie.Need-returns
 returns c = sym (bitmap-len-none (c .before .before .args .b) (c .if1 .taken))
 
--- src/len.rt:59:1
 returns-2 : tie.Need-returns-2
 returns-2 c = c .marks-len .ensures ∙ sym (bitmap-len-more (c .before .before .before .args .b) (c .before .if1 .left))
 

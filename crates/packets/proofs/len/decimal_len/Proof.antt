@@ -5,8 +5,6 @@ use lib.ListN.{length}
 use Rattle.texts.specs.Decimal.{decimal, decimal-word, length-small, length-step}
 use Rattle.packets.proofs.len.decimal_len.Statement.{statement}
 use Rattle.packets.proofs.len.decimal_len.Tie as tie
-use Rattle.packets.proofs.len.decimal_len.Reads as reads
-use Rattle.packets.proofs.len.decimal_len.Lts as lts
 
 abbrev Inv-loop : tie.InvT-loop
 Inv-loop n rest₀ len₀ rest len = len + length (decimal rest) ≡ 1 + length (decimal n)
@@ -14,23 +12,18 @@ Inv-loop n rest₀ len₀ rest len = len + length (decimal rest) ≡ 1 + length 
 abbrev μ-loop : tie.MeasureT-loop
 μ-loop n rest₀ len₀ rest len = rest
 
--- src/len.rt:20:5
 loop-holds : tie.Need-loop-holds Inv-loop μ-loop
 loop-holds c = refl
 
--- src/len.rt:22:9
 add-len : tie.Need-add-len Inv-loop μ-loop
 add-len c = omega (arith, c .before .loop .inv, decimal-word (c .before .before .args .n) (omega arith), length-step (c .before .loop .rest) (c .loop-test .taken))
 
--- src/len.rt:20:5
 loop-less : tie.Need-loop-less Inv-loop μ-loop
 loop-less c = omega arith
 
--- src/len.rt:20:5
 loop-again : tie.Need-loop-again Inv-loop μ-loop
 loop-again c = omega (arith, c .before .loop .inv, length-step (c .before .loop .rest) (c .loop-test .taken))
 
--- src/len.rt:15:1
 returns : tie.Need-returns Inv-loop μ-loop
 returns c = (omega (arith, c .before .loop .inv, length-small (c .before .loop .rest) (c .loop-test .left)), omega (arith, c .before .loop .inv, length-small (c .before .loop .rest) (c .loop-test .left), decimal-word (c .before .before .args .n) (omega arith)))
 

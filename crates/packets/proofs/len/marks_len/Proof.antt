@@ -7,8 +7,6 @@ use Rattle.packets.proofs.Texts.{marks-len-none, marks-len-more, marks-
 use Rattle.texts.specs.Readers.{boolText, itemsText}
 use Rattle.packets.proofs.len.marks_len.Statement.{statement}
 use Rattle.packets.proofs.len.marks_len.Tie as tie
-use Rattle.packets.proofs.len.marks_len.Reads as reads
-use Rattle.packets.proofs.len.marks_len.Lts as lts
 
 abbrev Inv-loop : tie.InvT-loop
 Inv-loop m n len₀ rest₀ left₀ len rest left = (left ≤ n) × (len + length (itemsText boolText (marksOf rest left)) ≡ 1 + length (itemsText boolText (marksOf m n)))
@@ -16,31 +14,24 @@ Inv-loop m n len₀ rest₀ left₀ len rest left = (left ≤ n) × (len + lengt
 abbrev μ-loop : tie.MeasureT-loop
 μ-loop m n len₀ rest₀ left₀ len rest left = left
 
--- src/len.rt:51:5
 loop-holds : tie.Need-loop-holds Inv-loop μ-loop
 loop-holds c = (omega arith, refl)
 
--- src/len.rt:52:15
 add-len : tie.Need-add-len Inv-loop μ-loop
 add-len c = omega (arith, c .before .loop .inv, marks-len-le (c .before .before .args .n) (c .before .before .args .m))
 
--- src/len.rt:52:15
 sub-len : tie.Need-sub-len Inv-loop μ-loop
 sub-len c = omega arith
 
--- src/len.rt:54:9
 sub-left : tie.Need-sub-left Inv-loop μ-loop
 sub-left c = omega arith
 
--- src/len.rt:51:5
 loop-less : tie.Need-loop-less Inv-loop μ-loop
 loop-less c = omega arith
 
--- src/len.rt:51:5
 loop-again : tie.Need-loop-again Inv-loop μ-loop
 loop-again c = (omega arith, omega (arith, c .before .loop .inv, marks-len-more (c .before .loop .rest) (c .before .loop .left) (c .loop-test .taken)))
 
--- src/len.rt:44:1
 returns : tie.Need-returns Inv-loop μ-loop
 returns c = omega (arith, c .before .loop .inv, marks-len-none (c .before .loop .rest) (c .before .loop .left) (c .loop-test .left))
 

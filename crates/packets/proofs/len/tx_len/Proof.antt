@@ -2,27 +2,19 @@ use native.Mathlib.Omega.{arith}
 use borrow.Author.Needs.{needs}
 use Rattle.packets.proofs.len.tx_len.Statement.{statement}
 use Rattle.packets.proofs.len.tx_len.Tie as tie
-use Rattle.packets.proofs.len.tx_len.Reads as reads
-use Rattle.packets.proofs.len.tx_len.Lts as lts
-use Rattle.packets.proofs.len.decimal_len.Reads as decimal-len-reads
 
--- src/len.rt:92:32
 enum-told : tie.Need-enum-told
 enum-told c = search needs
 
--- src/len.rt:93:30
 enum-known-p : tie.Need-enum-known-p
 enum-known-p c = search needs
 
--- src/len.rt:93:36
 decimal-len-requires : tie.Need-decimal-len-requires
 decimal-len-requires c κs = search needs
 
--- src/len.rt:88:1
 returns : tie.Need-returns
 returns c = (rw (c .enum-told .given .1), omega arith)
 
--- src/len.rt:88:1
 returns-2 : tie.Need-returns-2
 returns-2 c = (rw (c .before .before .p .given .1) (c .decimal-len .ensures .0), c .decimal-len .ensures .1)
 

@@ -2,20 +2,15 @@ use borrow.Author.Tests.{le-leb, lt-leb}
 use Rattle.packets.specs.Packets.{limits}
 use Rattle.packets.proofs.len.within.Statement.{statement}
 use Rattle.packets.proofs.len.within.Tie as tie
-use Rattle.packets.proofs.len.within.Reads as reads
-use Rattle.packets.proofs.len.within.Lts as lts
 
--- src/len.rt:119:9
 returns : tie.Need-returns
 unfolding limits
 returns c = rw (lt-leb (c .before .args .entries) 64 (c .if1 .taken))
 
--- src/len.rt:115:1
 returns-2 : tie.Need-returns-2
 unfolding limits
 returns-2 c = rw (le-leb (c .before .before .args .entries) 64 (c .before .if1 .left), lt-leb (c .before .before .args .bytes) 32 (c .if2 .taken))
 
--- src/len.rt:115:1
 returns-3 : tie.Need-returns-3
 unfolding limits
 returns-3 c = rw (le-leb (c .before .before .args .entries) 64 (c .before .if1 .left), le-leb (c .before .before .args .bytes) 32 (c .if2 .left))

@@ -7,9 +7,6 @@ use lib.ListN.{length, take}
 use Rattle.texts.specs.Put.{Put, put-none, put-as, put-more}
 use Rattle.packets.proofs.put.put_all.Statement.{statement}
 use Rattle.packets.proofs.put.put_all.Tie as tie
-use Rattle.packets.proofs.put.put_all.Reads as reads
-use Rattle.packets.proofs.put.put_all.Lts as lts
-use Rattle.packets.proofs.put.put_byte.Reads as put-byte-reads
 
 abbrev Inv-loop : tie.InvT-loop
 Inv-loop buf₀ at src j₀ o₀ buf j o = (j ≤ length src) × (length buf ≡ length buf₀) × Put buf₀ at (take j src) o buf

@@ -3,24 +3,16 @@ use Rattle.packets.specs.Packets.{bitmapText}
 use Rattle.texts.specs.Put.{put-then, room-first, room-next}
 use Rattle.packets.proofs.put.put_bitmap_field.Statement.{statement}
 use Rattle.packets.proofs.put.put_bitmap_field.Tie as tie
-use Rattle.packets.proofs.put.put_bitmap_field.Reads as reads
-use Rattle.packets.proofs.put.put_bitmap_field.Lts as lts
-use Rattle.packets.proofs.put.put_all.Reads as put-all-reads
-use Rattle.packets.proofs.put.put_bitmap.Reads as put-bitmap-reads
 
--- src/put.rt:190:9
 put-all-requires : tie.Need-put-all-requires
 put-all-requires c κs = room-first (c .before .before .before .args .key .now) (bitmapText (c .before .before .before .args .b)) (c .before .before .before .pre)
 
--- src/put.rt:191:5
 put-bitmap-requires : tie.Need-put-bitmap-requires
 put-bitmap-requires c κs = room-next (bitmapText (c .before .before .before .before .before .before .before .args .b)) (c .before .before .before .put-all .ensures) (c .before .before .before .before .before .before .before .pre)
 
--- src/put.rt:186:1
 same-length : tie.Need-same-length
 same-length c = search needs
 
--- src/put.rt:186:1
 returns : tie.Need-returns
 returns c = put-then (c .before .before .before .before .before .before .put-all .ensures) (c .before .before .put-bitmap .ensures) (c .before .before .before .before .before .before .before .before .before .before .pre)
 

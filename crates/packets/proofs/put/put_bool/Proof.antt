@@ -1,39 +1,28 @@
 use borrow.Author.Needs.{needs}
 use Rattle.packets.proofs.put.put_bool.Statement.{statement}
 use Rattle.packets.proofs.put.put_bool.Tie as tie
-use Rattle.packets.proofs.put.put_bool.Reads as reads
-use Rattle.packets.proofs.put.put_bool.Lts as lts
-use Rattle.packets.proofs.put.put_all.Reads as put-all-reads
 
--- src/put.rt:56:26
 slice-aggregate-put-all : tie.Need-slice-aggregate-put-all
 slice-aggregate-put-all c = search needs
 
--- src/put.rt:56:9
 put-all-requires : tie.Need-put-all-requires
 put-all-requires c κs = rw (c .before .before .if1 .taken) at (c .before .before .before .before .pre)
 
--- src/put.rt:58:26
 slice-aggregate-put-all-2 : tie.Need-slice-aggregate-put-all-2
 slice-aggregate-put-all-2 c = search needs
 
--- src/put.rt:58:9
 put-all-requires-2 : tie.Need-put-all-requires-2
 put-all-requires-2 c κs = rw (c .before .before .if1 .left) at (c .before .before .before .before .pre)
 
--- src/put.rt:51:1
 same-length : tie.Need-same-length
 same-length c = search needs
 
--- src/put.rt:51:1
 returns : tie.Need-returns
 returns c = rw (c .before .before .before .before .before .if1 .taken) (c .before .before .put-all .ensures)
 
--- src/put.rt:51:1
 same-length-2 : tie.Need-same-length-2
 same-length-2 c = search needs
 
--- src/put.rt:51:1
 returns-2 : tie.Need-returns-2
 returns-2 c = rw (c .before .before .before .before .before .if1 .left) (c .before .before .put-all2 .ensures)
 

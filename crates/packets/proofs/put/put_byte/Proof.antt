@@ -2,8 +2,6 @@ use Rattle.texts.specs.Put.{put-byte}
 use borrow.Author.Needs.{needs}
 use Rattle.packets.proofs.put.put_byte.Statement.{statement}
 use Rattle.packets.proofs.put.put_byte.Tie as tie
-use Rattle.packets.proofs.put.put_byte.Reads as reads
-use Rattle.packets.proofs.put.put_byte.Lts as lts
 
 slice-write-buf : tie.Need-slice-write-buf
 slice-write-buf c = search needs

@@ -10,62 +10,39 @@ use Rattle.texts.specs.Put.{put-as, room-as, room-first, Due, due-all, due-as, 
 use Rattle.texts.specs.Readers.{itemsText}
 use Rattle.packets.proofs.put.put_bytes.Statement.{statement}
 use Rattle.packets.proofs.put.put_bytes.Tie as tie
-use Rattle.packets.proofs.put.put_bytes.Reads as reads
-use Rattle.packets.proofs.put.put_bytes.Lts as lts
-use Rattle.packets.proofs.put.put_all.Reads as put-all-reads
-use Rattle.packets.proofs.put.put_byte.Reads as put-byte-reads
-use Rattle.packets.proofs.put.put_decimal.Reads as put-decimal-reads
-use Rattle.packets.proofs.put.put_rest.Reads as put-rest-reads
 
--- lemmas
 after-open : (c : tie.After-slice-known3) → Due (c .before .before .before .before .before .before .before .args .buf .now) (c .before .before .before .before .before .before .before .args .at) ((91 ∷ []) ++ (decimal (getD (c .before .before .before .before .before .before .before .args .d .now) 0 0) ++ itemsText decimal (drop 1 (take (c .before .before .before .before .before .before .before .args .n) (c .before .before .before .before .before .before .before .args .d .now))))) (c .before .before .put-byte .last .0) (c .before .before .put-byte .result) (decimal (getD (c .before .before .before .before .before .before .before .args .d .now) 0 0) ++ itemsText decimal (drop 1 (take (c .before .before .before .before .before .before .before .args .n) (c .before .before .before .before .before .before .before .args .d .now))))
 after-open c = due-put _ (due-all (room-as (list-more (c .before .before .before .before .before .before .before .args .d .now) (c .before .before .before .before .before .before .before .args .n) (c .before .before .before .before .if1 .left) (c .before .before .before .before .before .before .before .pre .0)) (c .before .before .before .before .before .before .before .pre .1))) (c .before .before .put-byte .ensures)
 
--- end lemmas
-
--- src/put.rt:124:26
 slice-aggregate-put-all : tie.Need-slice-aggregate-put-all
 slice-aggregate-put-all c = search needs
 
--- src/put.rt:124:9
 put-all-requires : tie.Need-put-all-requires
 put-all-requires c κs = room-as (list-none (c .before .before .before .before .before .args .d .now) (c .before .before .before .before .before .args .n) (c .before .before .if1 .taken)) (c .before .before .before .before .before .pre .1)
 
--- src/put.rt:126:13
 put-byte-requires : tie.Need-put-byte-requires
 put-byte-requires c κs = omega (arith, room-first (91 ∷ []) _ (room-as (list-more (c .before .before .before .before .args .d .now) (c .before .before .before .before .args .n) (c .before .if1 .left) (c .before .before .before .before .pre .0)) (c .before .before .before .before .pre .1)) .room)
 
--- src/put.rt:127:41
-shared-slice-read-put-decimal : tie.Need-shared-slice-read-put-decimal
-shared-slice-read-put-decimal c = search needs
+shared-slice-read-put-small : tie.Need-shared-slice-read-put-small
+shared-slice-read-put-small c = search needs
 
--- src/put.rt:127:41
-cast-put-decimal : tie.Need-cast-put-decimal
-cast-put-decimal c = omega (arith, c .shared-slice-known2 .given 0)
+put-small-requires : tie.Need-put-small-requires
+put-small-requires c κs = due-room _ _ (after-open (c .before .before))
 
--- src/put.rt:127:13
-put-decimal-requires : tie.Need-put-decimal-requires
-put-decimal-requires c κs = due-room _ _ (after-open (c .before .before))
-
--- src/put.rt:128:9
 put-rest-requires : tie.Need-put-rest-requires
-put-rest-requires c κs = (omega (arith, c .before .before .before .before .before .before .before .before .before .before .if1 .left), c .before .before .before .before .before .before .before .before .before .before .before .before .before .pre .0, due-room _ [] (due-as (sym (append-nil _)) (due-put _ (after-open (c .before .before .before .before .before .before)) (c .before .before .before .put-decimal .ensures))))
+put-rest-requires c κs = (omega (arith, c .before .before .before .before .before .before .before .before .before .before .if1 .left), c .before .before .before .before .before .before .before .before .before .before .before .before .before .pre .0, due-room _ [] (due-as (sym (append-nil _)) (due-put _ (after-open (c .before .before .before .before .before .before)) (c .before .before .before .put-small .ensures))))
 
--- src/put.rt:119:1
 same-length : tie.Need-same-length
 same-length c = search needs
 
--- src/put.rt:119:1
 returns : tie.Need-returns
 returns c = put-as (sym (list-none (c .before .before .before .before .before .before .before .before .args .d .now) (c .before .before .before .before .before .before .before .before .args .n) (c .before .before .before .before .before .if1 .taken))) (c .before .before .put-all .ensures)
 
--- src/put.rt:119:1
 same-length-2 : tie.Need-same-length-2
 same-length-2 c = search needs
 
--- src/put.rt:119:1
 returns-2 : tie.Need-returns-2
-returns-2 c = put-as (sym (list-more (c .before .before .before .before .before .before .before .before .before .before .before .before .before .before .before .before .args .d .now) (c .before .before .before .before .before .before .before .before .before .before .before .before .before .before .before .before .args .n) (c .before .before .before .before .before .before .before .before .before .before .before .before .before .if1 .left) (c .before .before .before .before .before .before .before .before .before .before .before .before .before .before .before .before .pre .0))) (due-last (due-put _ (after-open (c .before .before .before .before .before .before .before .before .before)) (c .before .before .before .before .before .before .put-decimal .ensures)) (c .before .before .put-rest .ensures))
+returns-2 c = put-as (sym (list-more (c .before .before .before .before .before .before .before .before .before .before .before .before .before .before .before .before .args .d .now) (c .before .before .before .before .before .before .before .before .before .before .before .before .before .before .before .before .args .n) (c .before .before .before .before .before .before .before .before .before .before .before .before .before .if1 .left) (c .before .before .before .before .before .before .before .before .before .before .before .before .before .before .before .before .pre .0))) (due-last (due-put _ (after-open (c .before .before .before .before .before .before .before .before .before)) (c .before .before .before .before .before .before .put-small .ensures)) (c .before .before .put-rest .ensures))
 
 pub put-bytes-spec : {M : Type 1} → statement M
 put-bytes-spec =
@@ -74,9 +51,8 @@ put-bytes-spec =
     slice-aggregate-put-all
     put-all-requires
     put-byte-requires
-    shared-slice-read-put-decimal
-    cast-put-decimal
-    put-decimal-requires
+    shared-slice-read-put-small
+    put-small-requires
     put-rest-requires
     same-length
     returns

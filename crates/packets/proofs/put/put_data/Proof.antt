@@ -3,24 +3,17 @@ use borrow.Author.Needs.{needs}
 use Rattle.packets.specs.Packets.{dataText}
 use Rattle.packets.proofs.put.put_data.Statement.{statement}
 use Rattle.packets.proofs.put.put_data.Tie as tie
-use Rattle.packets.proofs.put.put_data.Reads as reads
-use Rattle.packets.proofs.put.put_data.Lts as lts
-use Rattle.packets.proofs.put.put_bytes.Reads as put-bytes-reads
 
--- src/put.rt:137:24
 slice-aggregate-put-bytes : tie.Need-slice-aggregate-put-bytes
 slice-aggregate-put-bytes c = search needs
 
--- src/put.rt:137:5
 put-bytes-requires : tie.Need-put-bytes-requires
 unfolding dataText
 put-bytes-requires c κs = (omega (arith, slice-aggregate-put-bytes c), c .before .before .before .before .pre .1)
 
--- src/put.rt:132:1
 same-length : tie.Need-same-length
 same-length c = search needs
 
--- src/put.rt:132:1
 returns : tie.Need-returns
 unfolding dataText
 returns c = search needs

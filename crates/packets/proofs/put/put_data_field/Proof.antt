@@ -3,24 +3,16 @@ use Rattle.packets.specs.Packets.{dataText}
 use Rattle.texts.specs.Put.{put-then, room-first, room-next}
 use Rattle.packets.proofs.put.put_data_field.Statement.{statement}
 use Rattle.packets.proofs.put.put_data_field.Tie as tie
-use Rattle.packets.proofs.put.put_data_field.Reads as reads
-use Rattle.packets.proofs.put.put_data_field.Lts as lts
-use Rattle.packets.proofs.put.put_all.Reads as put-all-reads
-use Rattle.packets.proofs.put.put_data.Reads as put-data-reads
 
--- src/put.rt:198:9
 put-all-requires : tie.Need-put-all-requires
 put-all-requires c κs = room-first (c .before .before .before .args .key .now) (dataText (c .before .before .before .args .d)) (c .before .before .before .pre .1)
 
--- src/put.rt:199:5
 put-data-requires : tie.Need-put-data-requires
 put-data-requires c κs = (c .before .before .before .before .before .before .before .pre .0, room-next (dataText (c .before .before .before .before .before .before .before .args .d)) (c .before .before .before .put-all .ensures) (c .before .before .before .before .before .before .before .pre .1))
 
--- src/put.rt:194:1
 same-length : tie.Need-same-length
 same-length c = search needs
 
--- src/put.rt:194:1
 returns : tie.Need-returns
 returns c = put-then (c .before .before .before .before .before .before .put-all .ensures) (c .before .before .put-data .ensures) (c .before .before .before .before .before .before .before .before .before .before .pre .1)
 

@@ -10,10 +10,6 @@ use Rattle.texts.specs.Put.{Due, due-all, due-as, due-room, due-put, due-last}
 use Rattle.texts.specs.Readers.{boolText, itemsText}
 use Rattle.packets.proofs.put.put_marks.Statement.{statement}
 use Rattle.packets.proofs.put.put_marks.Tie as tie
-use Rattle.packets.proofs.put.put_marks.Reads as reads
-use Rattle.packets.proofs.put.put_marks.Lts as lts
-use Rattle.packets.proofs.put.put_bool.Reads as put-bool-reads
-use Rattle.packets.proofs.put.put_byte.Reads as put-byte-reads
 
 abbrev Inv-loop : tie.InvT-loop
 Inv-loop buf₀ at m n o₀ rest₀ left₀ buf o rest left = Due buf₀ at (itemsText boolText (marksOf m n)) buf o (itemsText boolText (marksOf rest left))
@@ -21,48 +17,36 @@ Inv-loop buf₀ at m n o₀ rest₀ left₀ buf o rest left = Due buf₀ at (ite
 abbrev μ-loop : tie.MeasureT-loop
 μ-loop buf₀ at m n o₀ rest₀ left₀ buf o rest left = left
 
--- lemmas
 open-item : (c : tie.In-loop Inv-loop μ-loop) → Due (c .before .before .before .args .buf .now) (c .before .before .before .args .at) (itemsText boolText (marksOf (c .before .before .before .args .m) (c .before .before .before .args .n))) (c .before .loop .buf) (c .before .loop .o) ((44 ∷ []) ++ (boolText (eqb (c .before .loop .rest % 2) 1) ++ itemsText boolText (marksOf (c .before .loop .rest / 2) (c .before .loop .left - 1))))
 open-item c = due-as (marks-more (c .before .loop .rest) (c .before .loop .left) (c .loop-test .taken)) (c .before .loop .inv)
 
 open-last : (c : tie.After-loop Inv-loop μ-loop) → Due (c .before .before .before .args .buf .now) (c .before .before .before .args .at) (itemsText boolText (marksOf (c .before .before .before .args .m) (c .before .before .before .args .n))) (c .before .loop .buf) (c .before .loop .o) (93 ∷ [])
 open-last c = due-as (marks-none (c .before .loop .rest) (c .before .loop .left) (c .loop-test .left)) (c .before .loop .inv)
 
--- end lemmas
-
--- src/put.rt:81:5
 loop-holds : tie.Need-loop-holds Inv-loop μ-loop
 loop-holds c = due-all (c .before .pre)
 
--- src/put.rt:82:9
 put-byte-requires : tie.Need-put-byte-requires Inv-loop μ-loop
 put-byte-requires c κs = omega (arith, due-room (44 ∷ []) _ (open-item (c .before)) .room)
 
--- src/put.rt:83:9
 put-bool-requires : tie.Need-put-bool-requires Inv-loop μ-loop
 put-bool-requires c κs = due-room _ _ (due-put _ (open-item (c .before .before .before .before .before)) (c .before .before .before .put-byte .ensures))
 
--- src/put.rt:85:9
 sub-left : tie.Need-sub-left Inv-loop μ-loop
 sub-left c = search needs
 
--- src/put.rt:81:5
 loop-less : tie.Need-loop-less Inv-loop μ-loop
 loop-less c = search needs
 
--- src/put.rt:81:5
 loop-again : tie.Need-loop-again Inv-loop μ-loop
 loop-again c = due-put _ (due-put _ (open-item (c .before .before .before .before .before .before .before .before)) (c .before .before .before .before .before .before .put-byte .ensures)) (c .before .before .put-bool .ensures)
 
--- src/put.rt:87:5
 put-byte-requires-2 : tie.Need-put-byte-requires-2 Inv-loop μ-loop
 put-byte-requires-2 c κs = omega (arith, due-room (93 ∷ []) [] (open-last (c .before)) .room)
 
--- src/put.rt:74:1
 same-length : tie.Need-same-length Inv-loop μ-loop
 same-length c = c .before .before .put-byte2 .kept .0 ∙ c .before .before .before .before .before .loop .inv .same
 
--- src/put.rt:74:1
 returns : tie.Need-returns Inv-loop μ-loop
 returns c = due-last (open-last (c .before .before .before .before)) (c .before .before .put-byte2 .ensures)
 

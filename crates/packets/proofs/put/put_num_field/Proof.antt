@@ -3,24 +3,16 @@ use Rattle.texts.specs.Decimal.{decimal}
 use Rattle.texts.specs.Put.{put-then, room-first, room-next}
 use Rattle.packets.proofs.put.put_num_field.Statement.{statement}
 use Rattle.packets.proofs.put.put_num_field.Tie as tie
-use Rattle.packets.proofs.put.put_num_field.Reads as reads
-use Rattle.packets.proofs.put.put_num_field.Lts as lts
-use Rattle.packets.proofs.put.put_all.Reads as put-all-reads
-use Rattle.packets.proofs.put.put_decimal.Reads as put-decimal-reads
 
--- src/put.rt:166:9
 put-all-requires : tie.Need-put-all-requires
 put-all-requires c κs = room-first (c .before .before .before .args .key .now) (decimal (c .before .before .before .args .n)) (c .before .before .before .pre)
 
--- src/put.rt:167:5
 put-decimal-requires : tie.Need-put-decimal-requires
 put-decimal-requires c κs = room-next (decimal (c .before .before .before .before .before .before .before .args .n)) (c .before .before .before .put-all .ensures) (c .before .before .before .before .before .before .before .pre)
 
--- src/put.rt:162:1
 same-length : tie.Need-same-length
 same-length c = search needs
 
--- src/put.rt:162:1
 returns : tie.Need-returns
 returns c = put-then (c .before .before .before .before .before .before .put-all .ensures) (c .before .before .put-decimal .ensures) (c .before .before .before .before .before .before .before .before .before .before .pre)
 

@@ -1,67 +1,49 @@
 use borrow.Author.Needs.{needs}
 use Rattle.packets.proofs.put.put_phase.Statement.{statement}
 use Rattle.packets.proofs.put.put_phase.Tie as tie
-use Rattle.packets.proofs.put.put_phase.Reads as reads
-use Rattle.packets.proofs.put.put_phase.Lts as lts
-use Rattle.packets.proofs.put.put_all.Reads as put-all-reads
 
--- src/put.rt:67:40
 enum-told : tie.Need-enum-told
 enum-told c = search needs
 
--- src/put.rt:67:49
 slice-aggregate-put-all : tie.Need-slice-aggregate-put-all
 slice-aggregate-put-all c = search needs
 
--- src/put.rt:67:32
 put-all-requires : tie.Need-put-all-requires
 put-all-requires c κs = rw (c .before .before .enum-told .given .1) at (c .before .before .before .before .before .pre)
 
--- src/put.rt:68:42
 enum-told-2 : tie.Need-enum-told-2
 enum-told-2 c = search needs
 
--- src/put.rt:68:51
 slice-aggregate-put-all-2 : tie.Need-slice-aggregate-put-all-2
 slice-aggregate-put-all-2 c = search needs
 
--- src/put.rt:68:34
 put-all-requires-2 : tie.Need-put-all-requires-2
 put-all-requires-2 c κs = rw (c .before .before .enum-told2 .given .1) at (c .before .before .before .before .before .pre)
 
--- src/put.rt:69:40
 enum-told-3 : tie.Need-enum-told-3
 enum-told-3 c = search needs
 
--- src/put.rt:69:49
 slice-aggregate-put-all-3 : tie.Need-slice-aggregate-put-all-3
 slice-aggregate-put-all-3 c = search needs
 
--- src/put.rt:69:32
 put-all-requires-3 : tie.Need-put-all-requires-3
 put-all-requires-3 c κs = rw (c .before .before .enum-told3 .given .1) at (c .before .before .before .before .before .pre)
 
--- src/put.rt:62:1
 same-length : tie.Need-same-length
 same-length c = search needs
 
--- src/put.rt:62:1
 returns : tie.Need-returns
 returns c = rw (c .before .before .before .before .before .enum-told .given .1) (c .before .before .put-all .ensures)
 
--- src/put.rt:62:1
 same-length-2 : tie.Need-same-length-2
 same-length-2 c = search needs
 
--- src/put.rt:62:1
 returns-2 : tie.Need-returns-2
 returns-2 c = rw (c .before .before .before .before .before .enum-told2 .given .1) (c .before .before .put-all2 .ensures)
 
--- src/put.rt:62:1
 same-length-3 : tie.Need-same-length-3
 same-length-3 c = search needs
 
--- src/put.rt:62:1
 returns-3 : tie.Need-returns-3
 returns-3 c = rw (c .before .before .before .before .before .enum-told3 .given .1) (c .before .before .put-all3 .ensures)
 

@@ -10,10 +10,6 @@ use Rattle.texts.specs.Put.{Due, due-all, due-as, due-room, due-put, due-last}
 use Rattle.texts.specs.Readers.{itemsText}
 use Rattle.packets.proofs.put.put_rest.Statement.{statement}
 use Rattle.packets.proofs.put.put_rest.Tie as tie
-use Rattle.packets.proofs.put.put_rest.Reads as reads
-use Rattle.packets.proofs.put.put_rest.Lts as lts
-use Rattle.packets.proofs.put.put_byte.Reads as put-byte-reads
-use Rattle.packets.proofs.put.put_decimal.Reads as put-decimal-reads
 
 abbrev Inv-loop : tie.InvT-loop
 Inv-loop buf₀ at d n o₀ i₀ buf o i = Due buf₀ at (itemsText decimal (drop 1 (take n d))) buf o (itemsText decimal (drop i (take n d))) × (i ≤ n)
@@ -21,56 +17,39 @@ Inv-loop buf₀ at d n o₀ i₀ buf o i = Due buf₀ at (itemsText decimal (dro
 abbrev μ-loop : tie.MeasureT-loop
 μ-loop buf₀ at d n o₀ i₀ buf o i = n - i
 
--- lemmas
 open-item : (c : tie.In-loop Inv-loop μ-loop) → Due (c .before .before .before .before .args .buf .now) (c .before .before .before .before .args .at) (itemsText decimal (drop 1 (take (c .before .before .before .before .args .n) (c .before .before .before .before .args .d .now)))) (c .before .loop .buf) (c .before .loop .o) ((44 ∷ []) ++ (decimal (getD (c .before .before .before .before .args .d .now) (c .before .loop .i) 0) ++ itemsText decimal (drop (c .before .loop .i + 1) (take (c .before .before .before .before .args .n) (c .before .before .before .before .args .d .now)))))
 open-item c = due-as (bytes-more (c .before .before .before .before .args .d .now) (c .before .before .before .before .args .n) (c .before .loop .i) (c .before .before .before .before .pre .1) (c .loop-test .taken)) (c .before .loop .inv .0)
 
 open-last : (c : tie.After-loop Inv-loop μ-loop) → Due (c .before .before .before .before .args .buf .now) (c .before .before .before .before .args .at) (itemsText decimal (drop 1 (take (c .before .before .before .before .args .n) (c .before .before .before .before .args .d .now)))) (c .before .loop .buf) (c .before .loop .o) (93 ∷ [])
 open-last c = due-as (bytes-none (c .before .before .before .before .args .d .now) (c .before .before .before .before .args .n) (c .before .loop .i) (c .before .before .before .before .pre .1) (c .loop-test .left)) (c .before .loop .inv .0)
 
--- end lemmas
-
--- src/put.rt:110:5
 loop-holds : tie.Need-loop-holds Inv-loop μ-loop
 loop-holds c = (due-all (c .before .before .pre .2), c .before .before .pre .0)
 
--- src/put.rt:111:9
 put-byte-requires : tie.Need-put-byte-requires Inv-loop μ-loop
 put-byte-requires c κs = omega (arith, due-room (44 ∷ []) _ (open-item (c .before)) .room)
 
--- src/put.rt:112:33
-shared-slice-read-put-decimal : tie.Need-shared-slice-read-put-decimal Inv-loop μ-loop
-shared-slice-read-put-decimal c = search needs
+shared-slice-read-put-small : tie.Need-shared-slice-read-put-small Inv-loop μ-loop
+shared-slice-read-put-small c = search needs
 
--- src/put.rt:112:33
-cast-put-decimal : tie.Need-cast-put-decimal Inv-loop μ-loop
-cast-put-decimal c = omega (arith, c .before .before .before .before .before .before .before .before .shared-slice-known .given (c .before .before .before .before .before .before .before .loop .i))
+put-small-requires : tie.Need-put-small-requires Inv-loop μ-loop
+put-small-requires c κs = due-room _ _ (due-put _ (open-item (c .before .before .before .before .before .before)) (c .before .before .before .before .put-byte .ensures))
 
--- src/put.rt:112:9
-put-decimal-requires : tie.Need-put-decimal-requires Inv-loop μ-loop
-put-decimal-requires c κs = due-room _ _ (due-put _ (open-item (c .before .before .before .before .before .before)) (c .before .before .before .before .put-byte .ensures))
-
--- src/put.rt:113:9
 add-i : tie.Need-add-i Inv-loop μ-loop
 add-i c = search needs
 
--- src/put.rt:110:5
 loop-less : tie.Need-loop-less Inv-loop μ-loop
 loop-less c = search needs
 
--- src/put.rt:110:5
 loop-again : tie.Need-loop-again Inv-loop μ-loop
-loop-again c = (due-put _ (due-put _ (open-item (c .before .before .before .before .before .before .before .before .before)) (c .before .before .before .before .before .before .before .put-byte .ensures)) (c .before .before .put-decimal .ensures), omega (arith, c .before .before .before .before .before .before .before .before .before .loop-test .taken))
+loop-again c = (due-put _ (due-put _ (open-item (c .before .before .before .before .before .before .before .before .before)) (c .before .before .before .before .before .before .before .put-byte .ensures)) (c .before .before .put-small .ensures), omega (arith, c .before .before .before .before .before .before .before .before .before .loop-test .taken))
 
--- src/put.rt:115:5
 put-byte-requires-2 : tie.Need-put-byte-requires-2 Inv-loop μ-loop
 put-byte-requires-2 c κs = omega (arith, due-room (93 ∷ []) [] (open-last (c .before)) .room)
 
--- src/put.rt:104:1
 same-length : tie.Need-same-length Inv-loop μ-loop
 same-length c = c .before .before .put-byte2 .kept .0 ∙ c .before .before .before .before .before .loop .inv .0 .same
 
--- src/put.rt:104:1
 returns : tie.Need-returns Inv-loop μ-loop
 returns c = due-last (open-last (c .before .before .before .before)) (c .before .before .put-byte2 .ensures)
 
@@ -82,9 +61,8 @@ put-rest-spec =
     μ-loop
     loop-holds
     put-byte-requires
-    shared-slice-read-put-decimal
-    cast-put-decimal
-    put-decimal-requires
+    shared-slice-read-put-small
+    put-small-requires
     add-i
     loop-less
     loop-again

@@ -1,44 +1,31 @@
 use borrow.Author.Needs.{needs}
 use Rattle.packets.proofs.put.put_state.Statement.{statement}
 use Rattle.packets.proofs.put.put_state.Tie as tie
-use Rattle.packets.proofs.put.put_state.Reads as reads
-use Rattle.packets.proofs.put.put_state.Lts as lts
-use Rattle.packets.proofs.put.put_all.Reads as put-all-reads
-use Rattle.packets.proofs.put.put_phase.Reads as put-phase-reads
 
--- src/put.rt:147:43
 enum-told : tie.Need-enum-told
 enum-told c = search needs
 
--- src/put.rt:147:52
 slice-aggregate-put-all : tie.Need-slice-aggregate-put-all
 slice-aggregate-put-all c = search needs
 
--- src/put.rt:147:35
 put-all-requires : tie.Need-put-all-requires
 put-all-requires c κs = rw (c .before .before .enum-told .given .1) at (c .before .before .before .before .before .pre)
 
--- src/put.rt:148:33
 enum-known-p : tie.Need-enum-known-p
 enum-known-p c = search needs
 
--- src/put.rt:148:39
 put-phase-requires : tie.Need-put-phase-requires
 put-phase-requires c κs = rw (c .before .before .p .given .1) at (c .before .before .before .before .before .pre)
 
--- src/put.rt:142:1
 same-length : tie.Need-same-length
 same-length c = search needs
 
--- src/put.rt:142:1
 returns : tie.Need-returns
 returns c = rw (c .before .before .before .before .before .enum-told .given .1) (c .before .before .put-all .ensures)
 
--- src/put.rt:142:1
 same-length-2 : tie.Need-same-length-2
 same-length-2 c = search needs
 
--- src/put.rt:142:1
 returns-2 : tie.Need-returns-2
 returns-2 c = rw (c .before .before .before .before .before .p .given .1) (c .before .before .put-phase .ensures)
 

@@ -6,29 +6,20 @@ use Rattle.texts.specs.LiteralLaws.{lit-le}
 use Rattle.texts.specs.Readers.{behind}
 use Rattle.packets.proofs.read.bool_field.Statement.{statement}
 use Rattle.packets.proofs.read.bool_field.Tie as tie
-use Rattle.packets.proofs.read.bool_field.Reads as reads
-use Rattle.packets.proofs.read.bool_field.Lts as lts
-use Rattle.packets.proofs.read.lit_at.Reads as lit-at-reads
-use Rattle.packets.proofs.read.read_bool.Reads as read-bool-reads
 
--- src/read.rt:333:9
 lit-at-requires : tie.Need-lit-at-requires
 lit-at-requires c κs = search needs
 
--- src/read.rt:334:9
 returns : tie.Need-returns
 unfolding behind
 returns c = rw (sym (c .before .lit-at .ensures) ∙ not-true _ (c .if1 .taken))
 
--- src/read.rt:336:18
 add-read-bool : tie.Need-add-read-bool
 add-read-bool c = omega (arith, lit-le (c .before .before .before .before .args .s .now) (c .before .before .before .before .args .at) (c .before .before .before .before .args .key .now) (sym (c .before .lit-at .ensures) ∙ not-false _ (c .if1 .left)) (c .before .before .before .before .pre))
 
--- src/read.rt:336:5
 read-bool-requires : tie.Need-read-bool-requires
 read-bool-requires c κs = search needs
 
--- src/read.rt:329:1
 returns-2 : tie.Need-returns-2
 unfolding behind
 returns-2 c = rw (sym (c .before .before .lit-at .ensures) ∙ not-false _ (c .before .if1 .left)) (c .read-bool .ensures)

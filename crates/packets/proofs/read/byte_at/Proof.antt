@@ -7,24 +7,18 @@ use Rattle.texts.specs.LiteralLaws.{with-done, with-short, with-other, with-mor
 use Rattle.texts.specs.Literals.{litAt}
 use Rattle.packets.proofs.read.byte_at.Statement.{statement}
 use Rattle.packets.proofs.read.byte_at.Tie as tie
-use Rattle.packets.proofs.read.byte_at.Reads as reads
-use Rattle.packets.proofs.read.byte_at.Lts as lts
 
--- src/read.rt:59:9
 returns : tie.Need-returns
 unfolding litAt
 returns c = sym (with-short (c .before .args .s .now) (c .before .args .at) (c .before .args .b ∷ []) 0 (omega arith) (c .if1 .taken))
 
--- src/read.rt:61:8
 shared-slice-read-if2 : tie.Need-shared-slice-read-if2
 shared-slice-read-if2 c = search needs
 
--- src/read.rt:55:1
 returns-2 : tie.Need-returns-2
 unfolding litAt
 returns-2 c = sym (with-more (c .before .before .before .args .s .now) (c .before .before .before .args .at) (c .before .before .before .args .b ∷ []) 0 (omega arith) (omega arith) (c .if2 .taken) ∙ with-done (c .before .before .before .args .s .now) (c .before .before .before .args .at + 1) (c .before .before .before .args .b ∷ []) 1 (omega arith))
 
--- src/read.rt:55:1
 returns-3 : tie.Need-returns-3
 unfolding litAt
 returns-3 c = sym (with-other (c .before .before .before .args .s .now) (c .before .before .before .args .at) (c .before .before .before .args .b ∷ []) 0 (omega arith) (omega arith) (c .if2 .left))

@@ -6,34 +6,23 @@ use Rattle.texts.specs.LiteralLaws.{lit-le}
 use Rattle.texts.specs.Readers.{behind}
 use Rattle.packets.proofs.read.data_field.Statement.{statement}
 use Rattle.packets.proofs.read.data_field.Tie as tie
-use Rattle.packets.proofs.read.data_field.Reads as reads
-use Rattle.packets.proofs.read.data_field.Lts as lts
-use Rattle.packets.proofs.read.lit_at.Reads as lit-at-reads
-use Rattle.packets.proofs.read.no_data.Reads as no-data-reads
-use Rattle.packets.proofs.read.read_data.Reads as read-data-reads
 
--- src/read.rt:363:9
 lit-at-requires : tie.Need-lit-at-requires
 lit-at-requires c κs = search needs
 
--- src/read.rt:364:9
 no-data-requires : tie.Need-no-data-requires
 no-data-requires c κs = search needs
 
--- src/read.rt:364:9
 returns : tie.Need-returns
 unfolding behind
 returns c = rw (sym (c .before .before .lit-at .ensures) ∙ not-true _ (c .before .if1 .taken)) (c .no-data .ensures)
 
--- src/read.rt:366:18
 add-read-data : tie.Need-add-read-data
 add-read-data c = omega (arith, lit-le (c .before .before .before .before .args .s .now) (c .before .before .before .before .args .at) (c .before .before .before .before .args .key .now) (sym (c .before .lit-at .ensures) ∙ not-false _ (c .if1 .left)) (c .before .before .before .before .pre))
 
--- src/read.rt:366:5
 read-data-requires : tie.Need-read-data-requires
 read-data-requires c κs = search needs
 
--- src/read.rt:359:1
 returns-2 : tie.Need-returns-2
 unfolding behind
 returns-2 c = rw (sym (c .before .before .lit-at .ensures) ∙ not-false _ (c .before .if1 .left)) (c .read-data .ensures)

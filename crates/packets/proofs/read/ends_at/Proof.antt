@@ -7,24 +7,17 @@ use Rattle.texts.specs.LiteralLaws.{lit-le}
 use Rattle.texts.specs.Readers.{endsAt}
 use Rattle.packets.proofs.read.ends_at.Statement.{statement}
 use Rattle.packets.proofs.read.ends_at.Tie as tie
-use Rattle.packets.proofs.read.ends_at.Reads as reads
-use Rattle.packets.proofs.read.ends_at.Lts as lts
-use Rattle.packets.proofs.read.byte_at.Reads as byte-at-reads
 
--- src/read.rt:86:9
 byte-at-requires : tie.Need-byte-at-requires
 byte-at-requires c κs = search needs
 
--- src/read.rt:87:9
 returns : tie.Need-returns
 unfolding endsAt
 returns c = rw (sym (c .before .byte-at .ensures) ∙ not-true _ (c .if1 .taken))
 
--- src/read.rt:89:5
 add-result : tie.Need-add-result
 add-result c = omega (arith, lit-le (c .before .before .before .args .s .now) (c .before .before .before .args .at) (125 ∷ []) (sym (c .before .byte-at .ensures) ∙ not-false _ (c .if1 .left)) (omega arith))
 
--- src/read.rt:83:1
 returns-2 : tie.Need-returns-2
 unfolding endsAt
 returns-2 c = rw (sym (c .before .byte-at .ensures) ∙ not-false _ (c .if1 .left))

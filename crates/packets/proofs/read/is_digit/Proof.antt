@@ -2,8 +2,6 @@ use borrow.Author.Tests.{lt-ltb, le-ltb}
 use Rattle.texts.specs.Readers.{isDigit}
 use Rattle.packets.proofs.read.is_digit.Statement.{statement}
 use Rattle.packets.proofs.read.is_digit.Tie as tie
-use Rattle.packets.proofs.read.is_digit.Reads as reads
-use Rattle.packets.proofs.read.is_digit.Lts as lts
 
 returns : tie.Need-returns
 unfolding isDigit

@@ -6,8 +6,6 @@ use Rattle.texts.specs.Literals.{startsWith, litAt}
 use Rattle.texts.specs.LiteralLaws.{with-done, with-short, with-other, with-more}
 use Rattle.packets.proofs.read.lit_at.Statement.{statement}
 use Rattle.packets.proofs.read.lit_at.Tie as tie
-use Rattle.packets.proofs.read.lit_at.Reads as reads
-use Rattle.packets.proofs.read.lit_at.Lts as lts
 
 abbrev Inv-loop : tie.InvT-loop
 Inv-loop s at t i₀ j₀ i j = litAt s at t ≡ startsWith (drop j t) (drop i s)

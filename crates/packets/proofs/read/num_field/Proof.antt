@@ -6,29 +6,20 @@ use Rattle.texts.specs.LiteralLaws.{lit-le}
 use Rattle.texts.specs.Readers.{behind}
 use Rattle.packets.proofs.read.num_field.Statement.{statement}
 use Rattle.packets.proofs.read.num_field.Tie as tie
-use Rattle.packets.proofs.read.num_field.Reads as reads
-use Rattle.packets.proofs.read.num_field.Lts as lts
-use Rattle.packets.proofs.read.lit_at.Reads as lit-at-reads
-use Rattle.packets.proofs.read.read_num.Reads as read-num-reads
 
--- src/read.rt:323:9
 lit-at-requires : tie.Need-lit-at-requires
 lit-at-requires c κs = search needs
 
--- src/read.rt:324:9
 returns : tie.Need-returns
 unfolding behind
 returns c = rw (sym (c .before .lit-at .ensures) ∙ not-true _ (c .if1 .taken))
 
--- src/read.rt:326:17
 add-read-num : tie.Need-add-read-num
 add-read-num c = omega (arith, lit-le (c .before .before .before .before .args .s .now) (c .before .before .before .before .args .at) (c .before .before .before .before .args .key .now) (sym (c .before .lit-at .ensures) ∙ not-false _ (c .if1 .left)) (c .before .before .before .before .pre))
 
--- src/read.rt:326:5
 read-num-requires : tie.Need-read-num-requires
 read-num-requires c κs = search needs
 
--- src/read.rt:319:1
 returns-2 : tie.Need-returns-2
 unfolding behind
 returns-2 c = rw (sym (c .before .before .lit-at .ensures) ∙ not-false _ (c .before .if1 .left)) (c .read-num .ensures)

@@ -6,45 +6,33 @@ use Rattle.texts.specs.LiteralLaws.{lit-le}
 use Rattle.texts.specs.Readers.{boolText, boolAt}
 use Rattle.packets.proofs.read.read_bool.Statement.{statement}
 use Rattle.packets.proofs.read.read_bool.Tie as tie
-use Rattle.packets.proofs.read.read_bool.Reads as reads
-use Rattle.packets.proofs.read.read_bool.Lts as lts
-use Rattle.packets.proofs.read.lit_at.Reads as lit-at-reads
 
--- src/read.rt:143:22
 slice-aggregate-lit-at : tie.Need-slice-aggregate-lit-at
 slice-aggregate-lit-at c = search needs
 
--- src/read.rt:143:8
 lit-at-requires : tie.Need-lit-at-requires
 lit-at-requires c κs = search needs
 
--- src/read.rt:146:19
 add-t8 : tie.Need-add-t8
 add-t8 c = omega (arith, lit-le (c .before .before .before .before .args .s .now) (c .before .before .before .before .args .at) (boolText true) (sym (c .before .lit-at .ensures) ∙ c .if1 .taken) (omega arith))
 
--- src/read.rt:144:9
 returns : tie.Need-returns
 unfolding boolAt
 returns c = rw (sym (c .before .lit-at .ensures) ∙ c .if1 .taken)
 
--- src/read.rt:149:22
 slice-aggregate-lit-at-2 : tie.Need-slice-aggregate-lit-at-2
 slice-aggregate-lit-at-2 c = search needs
 
--- src/read.rt:149:8
 lit-at-requires-2 : tie.Need-lit-at-requires-2
 lit-at-requires-2 c κs = search needs
 
--- src/read.rt:152:19
 add-t12 : tie.Need-add-t12
 add-t12 c = omega (arith, lit-le (c .before .before .before .before .before .before .before .args .s .now) (c .before .before .before .before .before .before .before .args .at) (boolText false) (sym (c .before .lit-at2 .ensures) ∙ c .if2 .taken) (omega arith))
 
--- src/read.rt:150:9
 returns-2 : tie.Need-returns-2
 unfolding boolAt
 returns-2 c = rw (sym (c .before .before .before .before .lit-at .ensures) ∙ c .before .before .before .if1 .left, sym (c .before .lit-at2 .ensures) ∙ c .if2 .taken)
 
--- src/read.rt:140:1
 returns-3 : tie.Need-returns-3
 unfolding boolAt
 returns-3 c = rw (sym (c .before .before .before .before .lit-at .ensures) ∙ c .before .before .before .if1 .left, sym (c .before .lit-at2 .ensures) ∙ c .if2 .left)

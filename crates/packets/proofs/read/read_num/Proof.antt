@@ -10,10 +10,6 @@ use Rattle.texts.specs.NumberLaws.{digit-range, digits-end, digits-stop, digits
 use Rattle.texts.specs.Readers.{isDigit, digits, numAt}
 use Rattle.packets.proofs.read.read_num.Statement.{statement}
 use Rattle.packets.proofs.read.read_num.Tie as tie
-use Rattle.packets.proofs.read.read_num.Reads as reads
-use Rattle.packets.proofs.read.read_num.Lts as lts
-use Rattle.packets.proofs.read.is_digit.Reads as is-digit-reads
-use Rattle.packets.proofs.read.starts_num.Reads as starts-num-reads
 
 abbrev Inv-loop : tie.InvT-loop
 Inv-loop s at most v₀ i₀ v i = (v ≤ most) × (numAt (most + 1) s at ≡ digits (most + 1) (drop i s) i v)
@@ -21,75 +17,56 @@ Inv-loop s at most v₀ i₀ v i = (v ≤ most) × (numAt (most + 1) s at ≡ di
 abbrev μ-loop : tie.MeasureT-loop
 μ-loop s at most v₀ i₀ v i = length s - i
 
--- lemmas
 passed : (c : tie.Else2 Inv-loop μ-loop) → isDigit (getD (c .before .before .before .before .before .before .before .before .args .s .now) (c .before .before .before .before .loop .i) 0) ≡ true
 passed c = sym (c .before .is-digit .ensures) ∙ not-false _ (c .if2 .left)
 
--- end lemmas
-
--- src/read.rt:120:9
 starts-num-requires : tie.Need-starts-num-requires Inv-loop μ-loop
 starts-num-requires c κs = tt
 
--- src/read.rt:121:9
 returns : tie.Need-returns Inv-loop μ-loop
 unfolding numAt
 returns c = rw (sym (c .before .starts-num .ensures) ∙ not-true _ (c .if1 .taken))
 
--- src/read.rt:125:5
 loop-holds : tie.Need-loop-holds Inv-loop μ-loop
 unfolding numAt
 loop-holds c = (omega arith, rw (sym (c .before .starts-num .ensures) ∙ not-false _ (c .if1 .left)))
 
--- src/read.rt:126:17
 shared-slice-read-b : tie.Need-shared-slice-read-b Inv-loop μ-loop
 shared-slice-read-b c = search needs
 
--- src/read.rt:127:13
 is-digit-requires : tie.Need-is-digit-requires Inv-loop μ-loop
 is-digit-requires c κs = search needs
 
--- src/read.rt:128:13
 returns-2 : tie.Need-returns-2 Inv-loop μ-loop
 returns-2 c = ap numFound (sym (c .before .before .before .before .loop .inv .1 ∙ digits-stop (c .before .before .before .before .before .before .before .before .args .s .now) (c .before .before .before .before .loop .i) (c .before .before .before .before .before .before .before .before .args .most + 1) (c .before .before .before .before .loop .v) (omega arith) (sym (c .before .is-digit .ensures) ∙ not-true _ (c .if2 .taken))))
 
--- src/read.rt:130:18
 sub-x : tie.Need-sub-x Inv-loop μ-loop
 sub-x c = digit-range (getD (c .before .before .before .before .before .before .before .before .args .s .now) (c .before .before .before .before .loop .i) 0) (passed c) .0
 
--- src/read.rt:130:17
 cast-x : tie.Need-cast-x Inv-loop μ-loop
 cast-x c = omega (arith, digit-range (getD (c .before .before .before .before .before .before .before .before .args .s .now) (c .before .before .before .before .loop .i) 0) (passed c))
 
--- src/read.rt:131:17
 sub-if3 : tie.Need-sub-if3 Inv-loop μ-loop
 sub-if3 c = omega (arith, digit-range (getD (c .before .before .before .before .before .before .before .before .args .s .now) (c .before .before .before .before .loop .i) 0) (passed c), c .before .before .before .before .before .before .before .before .pre)
 
--- src/read.rt:132:13
 returns-3 : tie.Need-returns-3 Inv-loop μ-loop
 returns-3 c = ap numFound (sym (c .before .before .before .before .before .loop .inv .1 ∙ digits-big (c .before .before .before .before .before .before .before .before .before .args .s .now) (c .before .before .before .before .before .loop .i) (c .before .before .before .before .before .before .before .before .before .args .most + 1) (c .before .before .before .before .before .loop .v) (omega arith) (passed (c .before)) (omega (arith, digit-range (getD (c .before .before .before .before .before .before .before .before .before .args .s .now) (c .before .before .before .before .before .loop .i) 0) (passed (c .before)), c .before .before .before .before .before .before .before .before .before .pre))))
 
--- src/read.rt:134:13
 mul-v : tie.Need-mul-v Inv-loop μ-loop
 mul-v c = omega arith
 
--- src/read.rt:134:13
 add-v : tie.Need-add-v Inv-loop μ-loop
 add-v c = omega (arith, digit-range (getD (c .before .before .before .before .before .before .before .before .before .args .s .now) (c .before .before .before .before .before .loop .i) 0) (passed (c .before)), c .before .before .before .before .before .before .before .before .before .pre)
 
--- src/read.rt:135:9
 add-i : tie.Need-add-i Inv-loop μ-loop
 add-i c = search needs
 
--- src/read.rt:125:5
 loop-less : tie.Need-loop-less Inv-loop μ-loop
 loop-less c = search needs
 
--- src/read.rt:125:5
 loop-again : tie.Need-loop-again Inv-loop μ-loop
 loop-again c = let small : c .before .before .before .before .before .loop .v * 10 + ((getD (c .before .before .before .before .before .before .before .before .before .args .s .now) (c .before .before .before .before .before .loop .i) 0) - 48) < c .before .before .before .before .before .before .before .before .before .args .most + 1 = omega (arith, digit-range (getD (c .before .before .before .before .before .before .before .before .before .args .s .now) (c .before .before .before .before .before .loop .i) 0) (passed (c .before)), c .before .before .before .before .before .before .before .before .before .pre) in (omega arith, c .before .before .before .before .before .loop .inv .1 ∙ digits-more (c .before .before .before .before .before .before .before .before .before .args .s .now) (c .before .before .before .before .before .loop .i) (c .before .before .before .before .before .before .before .before .before .args .most + 1) (c .before .before .before .before .before .loop .v) (omega arith) (passed (c .before)) small)
 
--- src/read.rt:116:1
 returns-4 : tie.Need-returns-4 Inv-loop μ-loop
 returns-4 c = ap numFound (sym (c .before .loop .inv .1 ∙ digits-end (c .before .before .before .before .before .args .s .now) (c .before .loop .i) (c .before .before .before .before .before .args .most + 1) (c .before .loop .v) (c .loop-test .left)))
 

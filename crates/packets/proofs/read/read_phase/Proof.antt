@@ -7,62 +7,46 @@ use Rattle.packets.specs.declared.TwoPcPhase.the-variants.{Prepare, Comm
 use Rattle.texts.specs.LiteralLaws.{lit-le}
 use Rattle.packets.proofs.read.read_phase.Statement.{statement}
 use Rattle.packets.proofs.read.read_phase.Tie as tie
-use Rattle.packets.proofs.read.read_phase.Reads as reads
-use Rattle.packets.proofs.read.read_phase.Lts as lts
-use Rattle.packets.proofs.read.lit_at.Reads as lit-at-reads
 
--- src/read.rt:161:22
 slice-aggregate-lit-at : tie.Need-slice-aggregate-lit-at
 slice-aggregate-lit-at c = search needs
 
--- src/read.rt:161:8
 lit-at-requires : tie.Need-lit-at-requires
 lit-at-requires c κs = search needs
 
--- src/read.rt:164:19
 add-t10 : tie.Need-add-t10
 add-t10 c = omega (arith, lit-le (c .before .before .before .before .args .s .now) (c .before .before .before .before .args .at) (phaseText Prepare) (sym (c .before .lit-at .ensures) ∙ c .if1 .taken) (omega arith))
 
--- src/read.rt:162:9
 returns : tie.Need-returns
 unfolding phaseAt
 returns c = rw (sym (c .before .lit-at .ensures) ∙ c .if1 .taken)
 
--- src/read.rt:167:22
 slice-aggregate-lit-at-2 : tie.Need-slice-aggregate-lit-at-2
 slice-aggregate-lit-at-2 c = search needs
 
--- src/read.rt:167:8
 lit-at-requires-2 : tie.Need-lit-at-requires-2
 lit-at-requires-2 c κs = search needs
 
--- src/read.rt:170:19
 add-t15 : tie.Need-add-t15
 add-t15 c = omega (arith, lit-le (c .before .before .before .before .before .before .before .args .s .now) (c .before .before .before .before .before .before .before .args .at) (phaseText Committed) (sym (c .before .lit-at2 .ensures) ∙ c .if2 .taken) (omega arith))
 
--- src/read.rt:168:9
 returns-2 : tie.Need-returns-2
 unfolding phaseAt
 returns-2 c = rw (sym (c .before .before .before .before .lit-at .ensures) ∙ c .before .before .before .if1 .left, sym (c .before .lit-at2 .ensures) ∙ c .if2 .taken)
 
--- src/read.rt:173:22
 slice-aggregate-lit-at-3 : tie.Need-slice-aggregate-lit-at-3
 slice-aggregate-lit-at-3 c = search needs
 
--- src/read.rt:173:8
 lit-at-requires-3 : tie.Need-lit-at-requires-3
 lit-at-requires-3 c κs = search needs
 
--- src/read.rt:176:19
 add-t20 : tie.Need-add-t20
 add-t20 c = omega (arith, lit-le (c .before .before .before .before .before .before .before .before .before .before .args .s .now) (c .before .before .before .before .before .before .before .before .before .before .args .at) (phaseText Aborted) (sym (c .before .lit-at3 .ensures) ∙ c .if3 .taken) (omega arith))
 
--- src/read.rt:174:9
 returns-3 : tie.Need-returns-3
 unfolding phaseAt
 returns-3 c = rw (sym (c .before .before .before .before .before .before .before .lit-at .ensures) ∙ c .before .before .before .before .before .before .if1 .left, sym (c .before .before .before .before .lit-at2 .ensures) ∙ c .before .before .before .if2 .left, sym (c .before .lit-at3 .ensures) ∙ c .if3 .taken)
 
--- src/read.rt:158:1
 returns-4 : tie.Need-returns-4
 unfolding phaseAt
 returns-4 c = rw (sym (c .before .before .before .before .before .before .before .lit-at .ensures) ∙ c .before .before .before .before .before .before .if1 .left, sym (c .before .before .before .before .lit-at2 .ensures) ∙ c .before .before .before .if2 .left, sym (c .before .lit-at3 .ensures) ∙ c .if3 .left)

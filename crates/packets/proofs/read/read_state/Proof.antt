@@ -7,46 +7,33 @@ use Rattle.texts.specs.LiteralLaws.{lit-le}
 use Rattle.texts.specs.Readers.{map, nullText, orNull}
 use Rattle.packets.proofs.read.read_state.Statement.{statement}
 use Rattle.packets.proofs.read.read_state.Tie as tie
-use Rattle.packets.proofs.read.read_state.Reads as reads
-use Rattle.packets.proofs.read.read_state.Lts as lts
-use Rattle.packets.proofs.read.lit_at.Reads as lit-at-reads
-use Rattle.packets.proofs.read.read_phase.Reads as read-phase-reads
 
--- src/read.rt:302:22
 slice-aggregate-lit-at : tie.Need-slice-aggregate-lit-at
 slice-aggregate-lit-at c = search needs
 
--- src/read.rt:302:8
 lit-at-requires : tie.Need-lit-at-requires
 lit-at-requires c κs = search needs
 
--- src/read.rt:305:19
 add-t10 : tie.Need-add-t10
 add-t10 c = omega (arith, lit-le (c .before .before .before .before .args .s .now) (c .before .before .before .before .args .at) (nullText) (sym (c .before .lit-at .ensures) ∙ c .if1 .taken) (omega arith))
 
--- src/read.rt:303:9
 returns : tie.Need-returns
 unfolding stateAt orNull map
 returns c = rw (sym (c .before .lit-at .ensures) ∙ c .if1 .taken)
 
--- src/read.rt:308:42
 read-phase-requires : tie.Need-read-phase-requires
 read-phase-requires c κs = search needs
 
--- src/read.rt:308:26
 enum-known-phase : tie.Need-enum-known-phase
 enum-known-phase c = search needs
 
--- src/read.rt:309:9
 enum-told : tie.Need-enum-told
 enum-told c = search needs
 
--- src/read.rt:309:9
 returns-2 : tie.Need-returns-2
 unfolding stateAt orNull map
 returns-2 c = rw (sym (c .before .before .before .before .lit-at .ensures) ∙ c .before .before .before .if1 .left, phase-bad (phaseAt (c .before .before .before .before .before .before .before .args .s .now) (c .before .before .before .before .before .before .before .args .at)) (c .before .before .read-phase .ensures) (c .enum-told .given .1))
 
--- src/read.rt:299:1
 returns-3 : tie.Need-returns-3
 unfolding stateAt orNull map
 returns-3 c = rw (sym (c .before .before .before .before .before .lit-at .ensures) ∙ c .before .before .before .before .if1 .left, phase-got (phaseAt (c .before .before .before .before .before .before .before .before .args .s .now) (c .before .before .before .before .before .before .before .before .args .at)) (c .before .before .before .read-phase .ensures) (c .before .phase .given .1))

@@ -6,9 +6,6 @@ use Rattle.texts.specs.NumberLaws.{head-end, head-at, starts-end, starts-other,
 use borrow.Author.Needs.{needs}
 use Rattle.packets.proofs.read.starts_num.Statement.{statement}
 use Rattle.packets.proofs.read.starts_num.Tie as tie
-use Rattle.packets.proofs.read.starts_num.Reads as reads
-use Rattle.packets.proofs.read.starts_num.Lts as lts
-use Rattle.packets.proofs.read.is_digit.Reads as is-digit-reads
 
 returns : tie.Need-returns
 returns c = sym (starts-end (c .before .before .args .s .now) (c .before .before .args .at) (c .if1 .taken))

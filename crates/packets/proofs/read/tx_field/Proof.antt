@@ -6,29 +6,20 @@ use Rattle.texts.specs.LiteralLaws.{lit-le}
 use Rattle.texts.specs.Readers.{behind}
 use Rattle.packets.proofs.read.tx_field.Statement.{statement}
 use Rattle.packets.proofs.read.tx_field.Tie as tie
-use Rattle.packets.proofs.read.tx_field.Reads as reads
-use Rattle.packets.proofs.read.tx_field.Lts as lts
-use Rattle.packets.proofs.read.lit_at.Reads as lit-at-reads
-use Rattle.packets.proofs.read.read_tx.Reads as read-tx-reads
 
--- src/read.rt:373:9
 lit-at-requires : tie.Need-lit-at-requires
 lit-at-requires c κs = search needs
 
--- src/read.rt:374:9
 returns : tie.Need-returns
 unfolding behind
 returns c = rw (sym (c .before .lit-at .ensures) ∙ not-true _ (c .if1 .taken))
 
--- src/read.rt:376:16
 add-read-tx : tie.Need-add-read-tx
 add-read-tx c = omega (arith, lit-le (c .before .before .before .before .args .s .now) (c .before .before .before .before .args .at) (c .before .before .before .before .args .key .now) (sym (c .before .lit-at .ensures) ∙ not-false _ (c .if1 .left)) (c .before .before .before .before .pre))
 
--- src/read.rt:376:5
 read-tx-requires : tie.Need-read-tx-requires
 read-tx-requires c κs = search needs
 
--- src/read.rt:369:1
 returns-2 : tie.Need-returns-2
 unfolding behind
 returns-2 c = rw (sym (c .before .before .lit-at .ensures) ∙ not-false _ (c .before .if1 .left)) (c .read-tx .ensures)

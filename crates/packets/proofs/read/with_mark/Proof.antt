@@ -3,22 +3,16 @@ use borrow.Author.Needs.{needs}
 use Rattle.packets.proofs.Words.{with-fits, with-yes, with-no}
 use Rattle.packets.proofs.read.with_mark.Statement.{statement}
 use Rattle.packets.proofs.read.with_mark.Tie as tie
-use Rattle.packets.proofs.read.with_mark.Reads as reads
-use Rattle.packets.proofs.read.with_mark.Lts as lts
 
--- src/read.rt:187:17
 shl-result : tie.Need-shl-result
 shl-result c = search needs
 
--- src/read.rt:187:12
 add-result : tie.Need-add-result
 add-result c = omega (arith, with-fits (c .before .args .k) (c .before .args .m) (c .before .pre .0) (c .before .pre .1))
 
--- src/read.rt:183:1
 returns : tie.Need-returns
 returns c = rw (c .if1 .taken) (with-yes (c .before .args .k) (c .before .args .m) (c .before .pre .0) (c .before .pre .1))
 
--- src/read.rt:183:1
 returns-2 : tie.Need-returns-2
 returns-2 c = rw (c .if1 .left) (with-no (c .before .args .k) (c .before .args .m) (c .before .pre .0) (c .before .pre .1))
 

@@ -4,46 +4,31 @@ use Rattle.packets.proofs.Texts.{bitmap-len-le}
 use Rattle.packets.proofs.Writes.{phase-le, ce-length}
 use Rattle.packets.proofs.two_pc_ce.ce_len.Statement.{statement}
 use Rattle.packets.proofs.two_pc_ce.ce_len.Tie as tie
-use Rattle.packets.proofs.two_pc_ce.ce_len.Reads as reads
-use Rattle.packets.proofs.two_pc_ce.ce_len.Lts as lts
-use Rattle.packets.proofs.len.bitmap_len.Reads as bitmap-len-reads
-use Rattle.packets.proofs.len.data_len.Reads as data-len-reads
-use Rattle.packets.proofs.len.decimal_len.Reads as decimal-len-reads
-use Rattle.packets.proofs.len.phase_len.Reads as phase-len-reads
 
--- src/two_pc_ce.rt:30:10
 decimal-len-requires : tie.Need-decimal-len-requires
 decimal-len-requires c κs = search needs
 
--- src/two_pc_ce.rt:30:5
 add-result : tie.Need-add-result
 add-result c = omega (arith, c .decimal-len .ensures, c .before .before .before .pre)
 
--- src/two_pc_ce.rt:31:11
 phase-len-requires : tie.Need-phase-len-requires
 phase-len-requires c κs = search needs
 
--- src/two_pc_ce.rt:30:5
 add-result-2 : tie.Need-add-result-2
 add-result-2 c = omega (arith, c .before .decimal-len .ensures, c .phase-len .ensures, phase-le (c .before .before .before .before .args .p .phase), c .before .before .before .before .pre)
 
--- src/two_pc_ce.rt:32:11
 data-len-requires : tie.Need-data-len-requires
 data-len-requires c κs = search needs
 
--- src/two_pc_ce.rt:30:5
 add-result-3 : tie.Need-add-result-3
 add-result-3 c = omega (arith, c .before .before .decimal-len .ensures, c .before .phase-len .ensures, phase-le (c .before .before .before .before .before .args .p .phase), c .data-len .ensures, c .before .before .before .before .before .pre)
 
--- src/two_pc_ce.rt:33:11
 bitmap-len-requires : tie.Need-bitmap-len-requires
 bitmap-len-requires c κs = search needs
 
--- src/two_pc_ce.rt:30:5
 add-result-4 : tie.Need-add-result-4
 add-result-4 c = omega (arith, c .before .before .before .decimal-len .ensures, c .before .before .phase-len .ensures, phase-le (c .before .before .before .before .before .before .args .p .phase), c .before .data-len .ensures, c .bitmap-len .ensures, bitmap-len-le (c .before .before .before .before .before .before .args .p .«flags_bitmap»), c .before .before .before .before .before .before .pre)
 
--- src/two_pc_ce.rt:23:1
 returns : tie.Need-returns
 returns c = omega (arith, ce-length (c .before .before .before .before .before .before .args .p), c .before .before .before .decimal-len .ensures, c .before .before .phase-len .ensures, c .before .data-len .ensures, c .bitmap-len .ensures)
 

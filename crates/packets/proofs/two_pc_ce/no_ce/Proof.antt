@@ -2,10 +2,7 @@ use mathlib.Core.Path.{refl}
 use Rattle.packets.specs.Reading.{ceNo}
 use Rattle.packets.proofs.two_pc_ce.no_ce.Statement.{statement}
 use Rattle.packets.proofs.two_pc_ce.no_ce.Tie as tie
-use Rattle.packets.proofs.two_pc_ce.no_ce.Reads as reads
-use Rattle.packets.proofs.two_pc_ce.no_ce.Lts as lts
 
--- src/two_pc_ce.rt:88:1
 returns : tie.Need-returns
 unfolding ceNo
 returns c = refl

@@ -9,15 +9,7 @@ use Rattle.texts.specs.Decimal.{decimal}
 use Rattle.texts.specs.Put.{Due, due-all, due-room, due-put, due-last}
 use Rattle.packets.proofs.two_pc_ce.put_ce.Statement.{statement}
 use Rattle.packets.proofs.two_pc_ce.put_ce.Tie as tie
-use Rattle.packets.proofs.two_pc_ce.put_ce.Reads as reads
-use Rattle.packets.proofs.two_pc_ce.put_ce.Lts as lts
-use Rattle.packets.proofs.put.put_bitmap_field.Reads as put-bitmap-field-reads
-use Rattle.packets.proofs.put.put_byte.Reads as put-byte-reads
-use Rattle.packets.proofs.put.put_data_field.Reads as put-data-field-reads
-use Rattle.packets.proofs.put.put_num_field.Reads as put-num-field-reads
-use Rattle.packets.proofs.put.put_phase_field.Reads as put-phase-field-reads
 
--- lemmas
 abbrev rest1 : CeTwoPcPacket → List ℕ
 rest1 p = keyPhase ++ (phaseText (p .phase) ++ (keyProposalData ++ (dataText (p .«proposal_data») ++ (keyFlagsBitmap ++ (bitmapText (p .«flags_bitmap») ++ (keyEnd))))))
 
@@ -46,50 +38,37 @@ due3 c = due-put {s = keyProposalData ++ dataText (c .before .before .before .be
 due4 : (c : tie.After-slice-known5) → Due (c .before .before .before .before .before .before .before .before .before .before .before .before .before .before .before .before .before .before .before .before .before .before .before .args .buf .now) (c .before .before .before .before .before .before .before .before .before .before .before .before .before .before .before .before .before .before .before .before .before .before .before .args .at) (ceText (c .before .before .before .before .before .before .before .before .before .before .before .before .before .before .before .before .before .before .before .before .before .before .before .args .p)) (c .before .before .put-bitmap-field .last .0) (c .before .before .put-bitmap-field .result) (rest4 (c .before .before .before .before .before .before .before .before .before .before .before .before .before .before .before .before .before .before .before .before .before .before .before .args .p))
 due4 c = due-put {s = keyFlagsBitmap ++ bitmapText (c .before .before .before .before .before .before .before .before .before .before .before .before .before .before .before .before .before .before .before .before .before .before .before .args .p .«flags_bitmap»)} (rest4 (c .before .before .before .before .before .before .before .before .before .before .before .before .before .before .before .before .before .before .before .before .before .before .before .args .p)) (due3 (c .before .before .before .before .before)) (c .before .before .put-bitmap-field .ensures)
 
--- end lemmas
-
--- src/two_pc_ce.rt:53:42
 slice-aggregate-put-num-field : tie.Need-slice-aggregate-put-num-field
 slice-aggregate-put-num-field c = search needs
 
--- src/two_pc_ce.rt:53:9
 put-num-field-requires : tie.Need-put-num-field-requires
 unfolding ceText
 put-num-field-requires c κs = due-room (keyTerm ++ decimal (c .before .before .before .before .before .args .p .term)) (rest1 (c .before .before .before .before .before .args .p)) (due0 (c .before .before .before .before))
 
--- src/two_pc_ce.rt:54:44
 slice-aggregate-put-phase-field : tie.Need-slice-aggregate-put-phase-field
 slice-aggregate-put-phase-field c = search needs
 
--- src/two_pc_ce.rt:54:9
 put-phase-field-requires : tie.Need-put-phase-field-requires
 put-phase-field-requires c κs = due-room (keyPhase ++ phaseText (c .before .before .before .before .before .before .before .before .before .before .args .p .phase)) (rest2 (c .before .before .before .before .before .before .before .before .before .before .args .p)) (due1 (c .before .before))
 
--- src/two_pc_ce.rt:55:43
 slice-aggregate-put-data-field : tie.Need-slice-aggregate-put-data-field
 slice-aggregate-put-data-field c = search needs
 
--- src/two_pc_ce.rt:55:9
 put-data-field-requires : tie.Need-put-data-field-requires
 put-data-field-requires c κs = (c .before .before .before .before .before .before .before .before .before .before .before .before .before .before .before .pre .0, due-room (keyProposalData ++ dataText (c .before .before .before .before .before .before .before .before .before .before .before .before .before .before .before .args .p .«proposal_data»)) (rest3 (c .before .before .before .before .before .before .before .before .before .before .before .before .before .before .before .args .p)) (due2 (c .before .before)))
 
--- src/two_pc_ce.rt:56:45
 slice-aggregate-put-bitmap-field : tie.Need-slice-aggregate-put-bitmap-field
 slice-aggregate-put-bitmap-field c = search needs
 
--- src/two_pc_ce.rt:56:9
 put-bitmap-field-requires : tie.Need-put-bitmap-field-requires
 put-bitmap-field-requires c κs = due-room (keyFlagsBitmap ++ bitmapText (c .before .before .before .before .before .before .before .before .before .before .before .before .before .before .before .before .before .before .before .before .args .p .«flags_bitmap»)) (rest4 (c .before .before .before .before .before .before .before .before .before .before .before .before .before .before .before .before .before .before .before .before .args .p)) (due3 (c .before .before))
 
--- src/two_pc_ce.rt:57:5
 put-byte-requires : tie.Need-put-byte-requires
 put-byte-requires c κs = omega (arith, due-room (125 ∷ []) [] (due4 (c .before)) .room)
 
--- src/two_pc_ce.rt:46:1
 same-length : tie.Need-same-length
 same-length c = c .before .before .put-byte .kept .0 ∙ due4 (c .before .before .before .before) .same
 
--- src/two_pc_ce.rt:46:1
 returns : tie.Need-returns
 returns c = due-last (due4 (c .before .before .before .before)) (c .before .before .put-byte .ensures)
 

@@ -8,121 +8,87 @@ use Rattle.packets.specs.Reading.{phaseAt, bitmapAt, dataAt, ceFields, c
 use Rattle.texts.specs.Readers.{on, behind, both, whole, numAt}
 use Rattle.packets.proofs.two_pc_ce.read_ce.Statement.{statement}
 use Rattle.packets.proofs.two_pc_ce.read_ce.Tie as tie
-use Rattle.packets.proofs.two_pc_ce.read_ce.Reads as reads
-use Rattle.packets.proofs.two_pc_ce.read_ce.Lts as lts
-use Rattle.packets.proofs.read.bitmap_field.Reads as bitmap-field-reads
-use Rattle.packets.proofs.read.data_field.Reads as data-field-reads
-use Rattle.packets.proofs.read.ends_at.Reads as ends-at-reads
-use Rattle.packets.proofs.read.num_field.Reads as num-field-reads
-use Rattle.packets.proofs.read.phase_field.Reads as phase-field-reads
-use Rattle.packets.proofs.two_pc_ce.no_ce.Reads as no-ce-reads
 
--- src/two_pc_ce.rt:108:72
 slice-aggregate-num-field : tie.Need-slice-aggregate-num-field
 slice-aggregate-num-field c = search needs
 
--- src/two_pc_ce.rt:108:50
 num-field-requires : tie.Need-num-field-requires
 num-field-requires c κs = search needs
 
--- src/two_pc_ce.rt:108:31
 enum-known-term : tie.Need-enum-known-term
 enum-known-term c = search needs
 
--- src/two_pc_ce.rt:109:9
 enum-told : tie.Need-enum-told
 enum-told c = search needs
 
--- src/two_pc_ce.rt:109:9
 no-ce-requires : tie.Need-no-ce-requires
 no-ce-requires c κs = search needs
 
--- src/two_pc_ce.rt:109:9
 returns : tie.Need-returns
 unfolding ceReadOf whole ceFields both on
 returns c = c .no-ce .ensures ∙ rw (num-bad (behind keyTerm (numAt (2 ^ 64)) (c .before .before .before .before .before .before .args .s .now) (0)) (c .before .before .before .num-field .ensures) (c .before .enum-told .given .1)) refl
 
--- src/two_pc_ce.rt:111:78
 slice-aggregate-phase-field : tie.Need-slice-aggregate-phase-field
 slice-aggregate-phase-field c = search needs
 
--- src/two_pc_ce.rt:111:53
 phase-field-requires : tie.Need-phase-field-requires
 phase-field-requires c κs = search needs
 
--- src/two_pc_ce.rt:111:33
 enum-known-phase : tie.Need-enum-known-phase
 enum-known-phase c = search needs
 
--- src/two_pc_ce.rt:112:9
 enum-told-2 : tie.Need-enum-told-2
 enum-told-2 c = search needs
 
--- src/two_pc_ce.rt:112:9
 no-ce-requires-2 : tie.Need-no-ce-requires-2
 no-ce-requires-2 c κs = search needs
 
--- src/two_pc_ce.rt:112:9
 returns-2 : tie.Need-returns-2
 unfolding ceReadOf whole ceFields both on
 returns-2 c = c .no-ce2 .ensures ∙ rw (num-got (behind keyTerm (numAt (2 ^ 64)) (c .before .before .before .before .before .before .before .before .before .before .before .args .s .now) (0)) (c .before .before .before .before .before .before .before .before .num-field .ensures) (c .before .before .before .before .before .before .term .given .1), phase-bad (behind keyPhase phaseAt (c .before .before .before .before .before .before .before .before .before .before .before .args .s .now) (c .before .before .before .before .before .before .term .given .0 .1 .0)) (c .before .before .before .phase-field .ensures) (c .before .enum-told2 .given .1)) refl
 
--- src/two_pc_ce.rt:114:37
 slice-aggregate-data-field : tie.Need-slice-aggregate-data-field
 slice-aggregate-data-field c = search needs
 
--- src/two_pc_ce.rt:114:9
 data-field-requires : tie.Need-data-field-requires
 data-field-requires c κs = search needs
 
--- src/two_pc_ce.rt:116:9
 no-ce-requires-3 : tie.Need-no-ce-requires-3
 no-ce-requires-3 c κs = search needs
 
--- src/two_pc_ce.rt:116:9
 returns-3 : tie.Need-returns-3
 unfolding ceReadOf whole ceFields both on
 returns-3 c = c .no-ce3 .ensures ∙ rw (num-got (behind keyTerm (numAt (2 ^ 64)) (c .before .before .before .before .before .before .before .before .before .before .before .before .before .before .before .before .args .s .now) (0)) (c .before .before .before .before .before .before .before .before .before .before .before .before .before .num-field .ensures) (c .before .before .before .before .before .before .before .before .before .before .before .term .given .1), phase-got (behind keyPhase phaseAt (c .before .before .before .before .before .before .before .before .before .before .before .before .before .before .before .before .args .s .now) (c .before .before .before .before .before .before .before .before .before .before .before .term .given .0 .1 .0)) (c .before .before .before .before .before .before .before .before .phase-field .ensures) (c .before .before .before .before .before .before .phase .given .1), data-bad (behind keyProposalData dataAt (c .before .before .before .before .before .before .before .before .before .before .before .before .before .before .before .before .args .s .now) (c .before .before .before .before .before .before .phase .given .0 .1 .0)) (c .before .before .before .data-field .ensures) (not-true _ (c .before .if1 .taken))) refl
 
--- src/two_pc_ce.rt:119:92
 slice-aggregate-bitmap-field : tie.Need-slice-aggregate-bitmap-field
 slice-aggregate-bitmap-field c = search needs
 
--- src/two_pc_ce.rt:119:62
 bitmap-field-requires : tie.Need-bitmap-field-requires
 bitmap-field-requires c κs = search needs
 
--- src/two_pc_ce.rt:119:35
 enum-known-flags-bitmap : tie.Need-enum-known-flags-bitmap
 enum-known-flags-bitmap c = search needs
 
--- src/two_pc_ce.rt:120:9
 enum-told-3 : tie.Need-enum-told-3
 enum-told-3 c = search needs
 
--- src/two_pc_ce.rt:120:9
 no-ce-requires-4 : tie.Need-no-ce-requires-4
 no-ce-requires-4 c κs = search needs
 
--- src/two_pc_ce.rt:120:9
 returns-4 : tie.Need-returns-4
 unfolding ceReadOf whole ceFields both on
 returns-4 c = c .no-ce4 .ensures ∙ rw (num-got (behind keyTerm (numAt (2 ^ 64)) (c .before .before .before .before .before .before .before .before .before .before .before .before .before .before .before .before .before .before .before .before .before .args .s .now) (0)) (c .before .before .before .before .before .before .before .before .before .before .before .before .before .before .before .before .before .before .num-field .ensures) (c .before .before .before .before .before .before .before .before .before .before .before .before .before .before .before .before .term .given .1), phase-got (behind keyPhase phaseAt (c .before .before .before .before .before .before .before .before .before .before .before .before .before .before .before .before .before .before .before .before .before .args .s .now) (c .before .before .before .before .before .before .before .before .before .before .before .before .before .before .before .before .term .given .0 .1 .0)) (c .before .before .before .before .before .before .before .before .before .before .before .before .before .phase-field .ensures) (c .before .before .before .before .before .before .before .before .before .before .before .phase .given .1), data-got (behind keyProposalData dataAt (c .before .before .before .before .before .before .before .before .before .before .before .before .before .before .before .before .before .before .before .before .before .args .s .now) (c .before .before .before .before .before .before .before .before .before .before .before .phase .given .0 .1 .0)) (c .before .before .before .before .before .before .before .before .data-field .ensures) (not-false _ (c .before .before .before .before .before .before .if1 .left)), bitmap-bad (behind keyFlagsBitmap bitmapAt (c .before .before .before .before .before .before .before .before .before .before .before .before .before .before .before .before .before .before .before .before .before .args .s .now) (c .before .before .before .before .before .before .before .before .data-field .result .next)) (c .before .before .before .bitmap-field .ensures) (c .before .enum-told3 .given .1)) refl
 
--- src/two_pc_ce.rt:122:9
 ends-at-requires : tie.Need-ends-at-requires
 ends-at-requires c κs = search needs
 
--- src/two_pc_ce.rt:123:9
 no-ce-requires-5 : tie.Need-no-ce-requires-5
 no-ce-requires-5 c κs = search needs
 
--- src/two_pc_ce.rt:123:9
 returns-5 : tie.Need-returns-5
 unfolding ceReadOf whole ceFields both on
 returns-5 c = c .no-ce5 .ensures ∙ rw (num-got (behind keyTerm (numAt (2 ^ 64)) (c .before .before .before .before .before .before .before .before .before .before .before .before .before .before .before .before .before .before .before .before .before .before .before .before .args .s .now) (0)) (c .before .before .before .before .before .before .before .before .before .before .before .before .before .before .before .before .before .before .before .before .before .num-field .ensures) (c .before .before .before .before .before .before .before .before .before .before .before .before .before .before .before .before .before .before .before .term .given .1), phase-got (behind keyPhase phaseAt (c .before .before .before .before .before .before .before .before .before .before .before .before .before .before .before .before .before .before .before .before .before .before .before .before .args .s .now) (c .before .before .before .before .before .before .before .before .before .before .before .before .before .before .before .before .before .before .before .term .given .0 .1 .0)) (c .before .before .before .before .before .before .before .before .before .before .before .before .before .before .before .before .phase-field .ensures) (c .before .before .before .before .before .before .before .before .before .before .before .before .before .before .phase .given .1), data-got (behind keyProposalData dataAt (c .before .before .before .before .before .before .before .before .before .before .before .before .before .before .before .before .before .before .before .before .before .before .before .before .args .s .now) (c .before .before .before .before .before .before .before .before .before .before .before .before .before .before .phase .given .0 .1 .0)) (c .before .before .before .before .before .before .before .before .before .before .before .data-field .ensures) (not-false _ (c .before .before .before .before .before .before .before .before .before .if1 .left)), bitmap-got (behind keyFlagsBitmap bitmapAt (c .before .before .before .before .before .before .before .before .before .before .before .before .before .before .before .before .before .before .before .before .before .before .before .before .args .s .now) (c .before .before .before .before .before .before .before .before .before .before .before .data-field .result .next)) (c .before .before .before .before .before .before .bitmap-field .ensures) (c .before .before .before .before .flags-bitmap .given .1), sym (c .before .before .ends-at .ensures) ∙ not-true _ (c .before .if2 .taken)) refl
 
--- src/two_pc_ce.rt:105:1
 returns-6 : tie.Need-returns-6
 unfolding ceReadOf whole ceFields both on
 returns-6 c = rw (num-got (behind keyTerm (numAt (2 ^ 64)) (c .before .before .before .before .before .before .before .before .before .before .before .before .before .before .before .before .before .before .before .before .before .before .before .args .s .now) (0)) (c .before .before .before .before .before .before .before .before .before .before .before .before .before .before .before .before .before .before .before .before .num-field .ensures) (c .before .before .before .before .before .before .before .before .before .before .before .before .before .before .before .before .before .before .term .given .1), phase-got (behind keyPhase phaseAt (c .before .before .before .before .before .before .before .before .before .before .before .before .before .before .before .before .before .before .before .before .before .before .before .args .s .now) (c .before .before .before .before .before .before .before .before .before .before .before .before .before .before .before .before .before .before .term .given .0 .1 .0)) (c .before .before .before .before .before .before .before .before .before .before .before .before .before .before .before .phase-field .ensures) (c .before .before .before .before .before .before .before .before .before .before .before .before .before .phase .given .1), data-got (behind keyProposalData dataAt (c .before .before .before .before .before .before .before .before .before .before .before .before .before .before .before .before .before .before .before .before .before .before .before .args .s .now) (c .before .before .before .before .before .before .before .before .before .before .before .before .before .phase .given .0 .1 .0)) (c .before .before .before .before .before .before .before .before .before .before .data-field .ensures) (not-false _ (c .before .before .before .before .before .before .before .before .if1 .left)), bitmap-got (behind keyFlagsBitmap bitmapAt (c .before .before .before .before .before .before .before .before .before .before .before .before .before .before .before .before .before .before .before .before .before .before .before .args .s .now) (c .before .before .before .before .before .before .before .before .before .before .data-field .result .next)) (c .before .before .before .before .before .bitmap-field .ensures) (c .before .before .before .flags-bitmap .given .1), sym (c .before .ends-at .ensures) ∙ not-false _ (c .if2 .left))

@@ -6,29 +6,20 @@ use lib.Seq.{length-take-le}
 use Rattle.packets.specs.Reading.{ceRead}
 use Rattle.packets.proofs.two_pc_ce.read_ce_packet.Statement.{statement}
 use Rattle.packets.proofs.two_pc_ce.read_ce_packet.Tie as tie
-use Rattle.packets.proofs.two_pc_ce.read_ce_packet.Reads as reads
-use Rattle.packets.proofs.two_pc_ce.read_ce_packet.Lts as lts
-use Rattle.packets.proofs.two_pc_ce.no_ce.Reads as no-ce-reads
-use Rattle.packets.proofs.two_pc_ce.read_ce.Reads as read-ce-reads
 
--- src/two_pc_ce.rt:139:9
 no-ce-requires : tie.Need-no-ce-requires
 no-ce-requires c κs = search needs
 
--- src/two_pc_ce.rt:139:9
 returns : tie.Need-returns
 unfolding ceRead
 returns c = c .no-ce .ensures ∙ rw (lt-leb (c .before .before .before .args .len) (length (c .before .before .before .args .s .now)) (c .before .if1 .taken)) refl
 
--- src/two_pc_ce.rt:141:13
 slice-aggregate-read-ce : tie.Need-slice-aggregate-read-ce
 slice-aggregate-read-ce c = sym (length-take-le (c .before .before .before .args .len) (c .before .before .before .args .s .now) (c .before .if1 .left))
 
--- src/two_pc_ce.rt:141:5
 read-ce-requires : tie.Need-read-ce-requires
 read-ce-requires c κs = search needs
 
--- src/two_pc_ce.rt:135:1
 returns-2 : tie.Need-returns-2
 unfolding ceRead
 returns-2 c = rw (le-leb (c .before .before .before .before .args .len) (length (c .before .before .before .before .args .s .now)) (c .before .before .if1 .left)) (c .read-ce .ensures)

@@ -6,45 +6,31 @@ use Rattle.packets.proofs.Writes.{limits-true, wrote-9, wrote-10, wrote
 use Rattle.packets.specs.Packets.{ceText, ceWithin}
 use Rattle.packets.proofs.two_pc_ce.write_ce_packet.Statement.{statement}
 use Rattle.packets.proofs.two_pc_ce.write_ce_packet.Tie as tie
-use Rattle.packets.proofs.two_pc_ce.write_ce_packet.Reads as reads
-use Rattle.packets.proofs.two_pc_ce.write_ce_packet.Lts as lts
-use Rattle.packets.proofs.len.within.Reads as within-reads
-use Rattle.packets.proofs.two_pc_ce.ce_len.Reads as ce-len-reads
-use Rattle.packets.proofs.two_pc_ce.put_ce.Reads as put-ce-reads
 
--- src/two_pc_ce.rt:65:9
 within-requires : tie.Need-within-requires
 within-requires c κs = search needs
 
--- src/two_pc_ce.rt:66:9
 returns : tie.Need-returns
 returns c = wrote-9 (ceText (c .before .before .before .args .p)) (c .before .before .before .args .buf .now) (c .before .before .before .args .at) (ceWithin (c .before .before .before .args .p)) (sym (c .before .within .ensures) ∙ not-true _ (c .if1 .taken))
 
--- src/two_pc_ce.rt:72:9
 returns-2 : tie.Need-returns-2
 returns-2 c = wrote-10 (ceText (c .before .before .before .before .args .p)) (c .before .before .before .before .args .buf .now) (c .before .before .before .before .args .at) (ceWithin (c .before .before .before .before .args .p)) (sym (c .before .before .within .ensures) ∙ not-false _ (c .before .if1 .left)) (omega (arith, c .if2 .taken))
 
--- src/two_pc_ce.rt:77:8
 ce-len-requires : tie.Need-ce-len-requires
 ce-len-requires c κs = limits-true (c .before .before .before .before .args .p .«flags_bitmap» .len) (c .before .before .before .before .args .p .«proposal_data» .len) (sym (c .before .before .within .ensures) ∙ not-false _ (c .before .if1 .left))
 
--- src/two_pc_ce.rt:77:20
 sub-if3 : tie.Need-sub-if3
 sub-if3 c = search needs
 
--- src/two_pc_ce.rt:78:9
 returns-3 : tie.Need-returns-3
 returns-3 c = wrote-10 (ceText (c .before .before .before .before .before .before .args .p)) (c .before .before .before .before .before .before .args .buf .now) (c .before .before .before .before .before .before .args .at) (ceWithin (c .before .before .before .before .before .before .args .p)) (sym (c .before .before .before .before .within .ensures) ∙ not-false _ (c .before .before .before .if1 .left)) (omega (arith, c .if3 .taken, c .before .ce-len .ensures))
 
--- src/two_pc_ce.rt:83:9
 put-ce-requires : tie.Need-put-ce-requires
 put-ce-requires c κs = (limits-true (c .before .before .before .before .before .before .before .args .p .«flags_bitmap» .len) (c .before .before .before .before .before .before .before .args .p .«proposal_data» .len) (sym (c .before .before .before .before .before .within .ensures) ∙ not-false _ (c .before .before .before .before .if1 .left)) .1, record { room = omega (arith, c .before .if3 .left, c .before .before .ce-len .ensures, c .before .before .before .if2 .left) })
 
--- src/two_pc_ce.rt:61:1
 same-length : tie.Need-same-length
 same-length c = search needs
 
--- src/two_pc_ce.rt:61:1
 returns-4 : tie.Need-returns-4
 returns-4 c = wrote (ceWithin (c .before .before .before .before .before .before .before .before .before .before .args .p)) (sym (c .before .before .before .before .before .before .before .before .within .ensures) ∙ not-false _ (c .before .before .before .before .before .before .before .if1 .left)) (record { room = omega (arith, c .before .before .before .before .if3 .left, c .before .before .before .before .before .ce-len .ensures, c .before .before .before .before .before .before .if2 .left) }) (c .before .before .put-ce .ensures)
 

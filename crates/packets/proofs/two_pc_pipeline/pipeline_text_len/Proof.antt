@@ -4,24 +4,16 @@ use borrow.Author.Tests.{not-true, not-false}
 use Rattle.packets.proofs.Writes.{limits-true}
 use Rattle.packets.proofs.two_pc_pipeline.pipeline_text_len.Statement.{statement}
 use Rattle.packets.proofs.two_pc_pipeline.pipeline_text_len.Tie as tie
-use Rattle.packets.proofs.two_pc_pipeline.pipeline_text_len.Reads as reads
-use Rattle.packets.proofs.two_pc_pipeline.pipeline_text_len.Lts as lts
-use Rattle.packets.proofs.len.within.Reads as within-reads
-use Rattle.packets.proofs.two_pc_pipeline.pipeline_len.Reads as pipeline-len-reads
 
--- src/two_pc_pipeline.rt:52:9
 within-requires : tie.Need-within-requires
 within-requires c κs = search needs
 
--- src/two_pc_pipeline.rt:53:9
 returns : tie.Need-returns
 returns c = rw (sym (c .before .within .ensures) ∙ not-true _ (c .if1 .taken))
 
--- src/two_pc_pipeline.rt:55:5
 pipeline-len-requires : tie.Need-pipeline-len-requires
 pipeline-len-requires c κs = limits-true (c .before .before .args .p .«flags_bitmap» .len) (c .before .before .args .p .«transaction_data» .len) (sym (c .before .within .ensures) ∙ not-false _ (c .if1 .left))
 
--- src/two_pc_pipeline.rt:49:1
 returns-2 : tie.Need-returns-2
 returns-2 c = rw (sym (c .before .before .within .ensures) ∙ not-false _ (c .before .if1 .left)) (c .pipeline-len .ensures)
 

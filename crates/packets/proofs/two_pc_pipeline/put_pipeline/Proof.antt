@@ -10,18 +10,7 @@ use Rattle.texts.specs.Put.{Due, due-all, due-room, due-put, due-last}
 use Rattle.texts.specs.Readers.{boolText}
 use Rattle.packets.proofs.two_pc_pipeline.put_pipeline.Statement.{statement}
 use Rattle.packets.proofs.two_pc_pipeline.put_pipeline.Tie as tie
-use Rattle.packets.proofs.two_pc_pipeline.put_pipeline.Reads as reads
-use Rattle.packets.proofs.two_pc_pipeline.put_pipeline.Lts as lts
-use Rattle.packets.proofs.put.put_bitmap_field.Reads as put-bitmap-field-reads
-use Rattle.packets.proofs.put.put_bool_field.Reads as put-bool-field-reads
-use Rattle.packets.proofs.put.put_byte.Reads as put-byte-reads
-use Rattle.packets.proofs.put.put_data_field.Reads as put-data-field-reads
-use Rattle.packets.proofs.put.put_num_field.Reads as put-num-field-reads
-use Rattle.packets.proofs.put.put_phase_field.Reads as put-phase-field-reads
-use Rattle.packets.proofs.put.put_state_field.Reads as put-state-field-reads
-use Rattle.packets.proofs.put.put_tx_field.Reads as put-tx-field-reads
 
--- lemmas
 abbrev rest1 : TwoPcPacket → List ℕ
 rest1 p = keyState ++ (phaseText (p .state) ++ (keyFlagsBitmap ++ (bitmapText (p .«flags_bitmap») ++ (keyAbortFlag ++ (boolText (p .«abort_flag») ++ (keyNackTxId ++ (decimal (p .«nack_tx_id») ++ (keyTransactionData ++ (dataText (p .«transaction_data») ++ (keySender ++ (decimal (p .sender) ++ (keyPiggybackTx ++ (txText (p .«piggyback_tx») ++ (keyPiggybackState ++ (stateText (p .«piggyback_state») ++ (keyEnd))))))))))))))))
 
@@ -80,90 +69,67 @@ due8 c = due-put {s = keyPiggybackTx ++ txText (c .before .before .before .befor
 due9 : (c : tie.After-slice-known10) → Due (c .before .before .before .before .before .before .before .before .before .before .before .before .before .before .before .before .before .before .before .before .before .before .before .before .before .before .before .before .before .before .before .before .before .before .before .before .before .before .before .before .before .before .before .before .before .before .before .before .args .buf .now) (c .before .before .before .before .before .before .before .before .before .before .before .before .before .before .before .before .before .before .before .before .before .before .before .before .before .before .before .before .before .before .before .before .before .before .before .before .before .before .before .before .before .before .before .before .before .before .before .before .args .at) (pipelineText (c .before .before .before .before .before .before .before .before .before .before .before .before .before .before .before .before .before .before .before .before .before .before .before .before .before .before .before .before .before .before .before .before .before .before .before .before .before .before .before .before .before .before .before .before .before .before .before .before .args .p)) (c .before .before .put-state-field .last .0) (c .before .before .put-state-field .result) (rest9 (c .before .before .before .before .before .before .before .before .before .before .before .before .before .before .before .before .before .before .before .before .before .before .before .before .before .before .before .before .before .before .before .before .before .before .before .before .before .before .before .before .before .before .before .before .before .before .before .before .args .p))
 due9 c = due-put {s = keyPiggybackState ++ stateText (c .before .before .before .before .before .before .before .before .before .before .before .before .before .before .before .before .before .before .before .before .before .before .before .before .before .before .before .before .before .before .before .before .before .before .before .before .before .before .before .before .before .before .before .before .before .before .before .before .args .p .«piggyback_state»)} (rest9 (c .before .before .before .before .before .before .before .before .before .before .before .before .before .before .before .before .before .before .before .before .before .before .before .before .before .before .before .before .before .before .before .before .before .before .before .before .before .before .before .before .before .before .before .before .before .before .before .before .args .p)) (due8 (c .before .before .before .before .before)) (c .before .before .put-state-field .ensures)
 
--- end lemmas
-
--- src/two_pc_pipeline.rt:67:42
 slice-aggregate-put-num-field : tie.Need-slice-aggregate-put-num-field
 slice-aggregate-put-num-field c = search needs
 
--- src/two_pc_pipeline.rt:67:9
 put-num-field-requires : tie.Need-put-num-field-requires
 unfolding pipelineText
 put-num-field-requires c κs = due-room (keyTransactionId ++ decimal (c .before .before .before .before .before .args .p .«transaction_id»)) (rest1 (c .before .before .before .before .before .args .p)) (due0 (c .before .before .before .before))
 
--- src/two_pc_pipeline.rt:68:44
 slice-aggregate-put-phase-field : tie.Need-slice-aggregate-put-phase-field
 slice-aggregate-put-phase-field c = search needs
 
--- src/two_pc_pipeline.rt:68:9
 put-phase-field-requires : tie.Need-put-phase-field-requires
 put-phase-field-requires c κs = due-room (keyState ++ phaseText (c .before .before .before .before .before .before .before .before .before .before .args .p .state)) (rest2 (c .before .before .before .before .before .before .before .before .before .before .args .p)) (due1 (c .before .before))
 
--- src/two_pc_pipeline.rt:69:45
 slice-aggregate-put-bitmap-field : tie.Need-slice-aggregate-put-bitmap-field
 slice-aggregate-put-bitmap-field c = search needs
 
--- src/two_pc_pipeline.rt:69:9
 put-bitmap-field-requires : tie.Need-put-bitmap-field-requires
 put-bitmap-field-requires c κs = due-room (keyFlagsBitmap ++ bitmapText (c .before .before .before .before .before .before .before .before .before .before .before .before .before .before .before .args .p .«flags_bitmap»)) (rest3 (c .before .before .before .before .before .before .before .before .before .before .before .before .before .before .before .args .p)) (due2 (c .before .before))
 
--- src/two_pc_pipeline.rt:70:43
 slice-aggregate-put-bool-field : tie.Need-slice-aggregate-put-bool-field
 slice-aggregate-put-bool-field c = search needs
 
--- src/two_pc_pipeline.rt:70:9
 put-bool-field-requires : tie.Need-put-bool-field-requires
 put-bool-field-requires c κs = due-room (keyAbortFlag ++ boolText (c .before .before .before .before .before .before .before .before .before .before .before .before .before .before .before .before .before .before .before .before .args .p .«abort_flag»)) (rest4 (c .before .before .before .before .before .before .before .before .before .before .before .before .before .before .before .before .before .before .before .before .args .p)) (due3 (c .before .before))
 
--- src/two_pc_pipeline.rt:71:42
 slice-aggregate-put-num-field-2 : tie.Need-slice-aggregate-put-num-field-2
 slice-aggregate-put-num-field-2 c = search needs
 
--- src/two_pc_pipeline.rt:71:9
 put-num-field-requires-2 : tie.Need-put-num-field-requires-2
 put-num-field-requires-2 c κs = due-room (keyNackTxId ++ decimal (c .before .before .before .before .before .before .before .before .before .before .before .before .before .before .before .before .before .before .before .before .before .before .before .before .before .args .p .«nack_tx_id»)) (rest5 (c .before .before .before .before .before .before .before .before .before .before .before .before .before .before .before .before .before .before .before .before .before .before .before .before .before .args .p)) (due4 (c .before .before))
 
--- src/two_pc_pipeline.rt:72:43
 slice-aggregate-put-data-field : tie.Need-slice-aggregate-put-data-field
 slice-aggregate-put-data-field c = search needs
 
--- src/two_pc_pipeline.rt:72:9
 put-data-field-requires : tie.Need-put-data-field-requires
 put-data-field-requires c κs = (c .before .before .before .before .before .before .before .before .before .before .before .before .before .before .before .before .before .before .before .before .before .before .before .before .before .before .before .before .before .before .pre .0, due-room (keyTransactionData ++ dataText (c .before .before .before .before .before .before .before .before .before .before .before .before .before .before .before .before .before .before .before .before .before .before .before .before .before .before .before .before .before .before .args .p .«transaction_data»)) (rest6 (c .before .before .before .before .before .before .before .before .before .before .before .before .before .before .before .before .before .before .before .before .before .before .before .before .before .before .before .before .before .before .args .p)) (due5 (c .before .before)))
 
--- src/two_pc_pipeline.rt:73:42
 slice-aggregate-put-num-field-3 : tie.Need-slice-aggregate-put-num-field-3
 slice-aggregate-put-num-field-3 c = search needs
 
--- src/two_pc_pipeline.rt:73:9
 put-num-field-requires-3 : tie.Need-put-num-field-requires-3
 put-num-field-requires-3 c κs = due-room (keySender ++ decimal (c .before .before .before .before .before .before .before .before .before .before .before .before .before .before .before .before .before .before .before .before .before .before .before .before .before .before .before .before .before .before .before .before .before .before .before .args .p .sender)) (rest7 (c .before .before .before .before .before .before .before .before .before .before .before .before .before .before .before .before .before .before .before .before .before .before .before .before .before .before .before .before .before .before .before .before .before .before .before .args .p)) (due6 (c .before .before))
 
--- src/two_pc_pipeline.rt:74:41
 slice-aggregate-put-tx-field : tie.Need-slice-aggregate-put-tx-field
 slice-aggregate-put-tx-field c = search needs
 
--- src/two_pc_pipeline.rt:74:9
 put-tx-field-requires : tie.Need-put-tx-field-requires
 put-tx-field-requires c κs = due-room (keyPiggybackTx ++ txText (c .before .before .before .before .before .before .before .before .before .before .before .before .before .before .before .before .before .before .before .before .before .before .before .before .before .before .before .before .before .before .before .before .before .before .before .before .before .before .before .before .args .p .«piggyback_tx»)) (rest8 (c .before .before .before .before .before .before .before .before .before .before .before .before .before .before .before .before .before .before .before .before .before .before .before .before .before .before .before .before .before .before .before .before .before .before .before .before .before .before .before .before .args .p)) (due7 (c .before .before))
 
--- src/two_pc_pipeline.rt:75:44
 slice-aggregate-put-state-field : tie.Need-slice-aggregate-put-state-field
 slice-aggregate-put-state-field c = search needs
 
--- src/two_pc_pipeline.rt:75:9
 put-state-field-requires : tie.Need-put-state-field-requires
 put-state-field-requires c κs = due-room (keyPiggybackState ++ stateText (c .before .before .before .before .before .before .before .before .before .before .before .before .before .before .before .before .before .before .before .before .before .before .before .before .before .before .before .before .before .before .before .before .before .before .before .before .before .before .before .before .before .before .before .before .before .args .p .«piggyback_state»)) (rest9 (c .before .before .before .before .before .before .before .before .before .before .before .before .before .before .before .before .before .before .before .before .before .before .before .before .before .before .before .before .before .before .before .before .before .before .before .before .before .before .before .before .before .before .before .before .before .args .p)) (due8 (c .before .before))
 
--- src/two_pc_pipeline.rt:76:5
 put-byte-requires : tie.Need-put-byte-requires
 put-byte-requires c κs = omega (arith, due-room (125 ∷ []) [] (due9 (c .before)) .room)
 
--- src/two_pc_pipeline.rt:58:1
 same-length : tie.Need-same-length
 same-length c = c .before .before .put-byte .kept .0 ∙ due9 (c .before .before .before .before) .same
 
--- src/two_pc_pipeline.rt:58:1
 returns : tie.Need-returns
 returns c = due-last (due9 (c .before .before .before .before)) (c .before .before .put-byte .ensures)
 

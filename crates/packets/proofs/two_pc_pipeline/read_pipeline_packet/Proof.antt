@@ -6,29 +6,20 @@ use lib.Seq.{length-take-le}
 use Rattle.packets.specs.Reading.{pipelineRead}
 use Rattle.packets.proofs.two_pc_pipeline.read_pipeline_packet.Statement.{statement}
 use Rattle.packets.proofs.two_pc_pipeline.read_pipeline_packet.Tie as tie
-use Rattle.packets.proofs.two_pc_pipeline.read_pipeline_packet.Reads as reads
-use Rattle.packets.proofs.two_pc_pipeline.read_pipeline_packet.Lts as lts
-use Rattle.packets.proofs.two_pc_pipeline.no_pipeline.Reads as no-pipeline-reads
-use Rattle.packets.proofs.two_pc_pipeline.read_pipeline.Reads as read-pipeline-reads
 
--- src/two_pc_pipeline.rt:183:9
 no-pipeline-requires : tie.Need-no-pipeline-requires
 no-pipeline-requires c κs = search needs
 
--- src/two_pc_pipeline.rt:183:9
 returns : tie.Need-returns
 unfolding pipelineRead
 returns c = c .no-pipeline .ensures ∙ rw (lt-leb (c .before .before .before .args .len) (length (c .before .before .before .args .s .now)) (c .before .if1 .taken)) refl
 
--- src/two_pc_pipeline.rt:185:19
 slice-aggregate-read-pipeline : tie.Need-slice-aggregate-read-pipeline
 slice-aggregate-read-pipeline c = sym (length-take-le (c .before .before .before .args .len) (c .before .before .before .args .s .now) (c .before .if1 .left))
 
--- src/two_pc_pipeline.rt:185:5
 read-pipeline-requires : tie.Need-read-pipeline-requires
 read-pipeline-requires c κs = search needs
 
--- src/two_pc_pipeline.rt:179:1
 returns-2 : tie.Need-returns-2
 unfolding pipelineRead
 returns-2 c = rw (le-leb (c .before .before .before .before .args .len) (length (c .before .before .before .before .args .s .now)) (c .before .before .if1 .left)) (c .read-pipeline .ensures)

@@ -1,0 +1,65 @@
+/* Writes a packet of each family, reads it back, and shows two refusals. From the top of the repository:
+
+       rt staticlib packets
+       gcc -std=c11 -Wall -Wextra -Werror -Iinclude include/example.c target/staticlib/libpackets.a -o target/example
+       target/example
+*/
+#include <stdio.h>
+#include "packets.h"
+
+static const char *const phases[] = {"Prepare", "Committed", "Aborted"};
+
+static void show_text(const uint8_t *text, uint64_t len)
+{
+    printf("%.*s (%llu bytes)\n", (int)len, (const char *)text, (unsigned long long)len);
+}
+
+static int capture(void)
+{
+    const uint64_t numbers[CE_NUMBERS] = {1, 0, 3, 2, 1};
+    const uint8_t data[] = {'t', 'x', '1'};
+    uint8_t text[CE_LONGEST];
+    uint64_t len = 0;
+    if (ce_packet_write(numbers, CE_NUMBERS, data, sizeof data, text, sizeof text, 0, &len) != 0)
+        return 1;
+    show_text(text, len);
+
+    uint64_t back[CE_NUMBERS];
+    uint8_t bytes[PACKET_DATA];
+    if (ce_packet_read(text, sizeof text, len, back, CE_NUMBERS, bytes, sizeof bytes) != 0)
+        return 1;
+    printf("term %llu, %s, %llu bytes of data, %llu entries, marks %llu\n", (unsigned long long)back[CE_TERM], phases[back[CE_PHASE]],
+           (unsigned long long)back[CE_DATA_LEN], (unsigned long long)back[CE_BITMAP_LEN], (unsigned long long)back[CE_MARKS]);
+
+    /* A text that is cut short is refused, and so is a buffer that is one byte short. */
+    printf("cut text: refusal %llu\n", (unsigned long long)ce_packet_read(text, sizeof text, len - 1, back, CE_NUMBERS, bytes, sizeof bytes));
+    printf("short buffer: refusal %llu\n", (unsigned long long)ce_packet_write(numbers, CE_NUMBERS, data, sizeof data, text, len - 1, 0, &len));
+    return 0;
+}
+
+static int pipeline(void)
+{
+    const uint64_t numbers[PIPELINE_NUMBERS] = {7, 0, 4, 5, 0, 3, 0, 2, 1, 3, 1, 1};
+    uint8_t text[PIPELINE_LONGEST];
+    uint64_t len = 0;
+    if (pipeline_packet_write(numbers, PIPELINE_NUMBERS, NULL, 0, text, sizeof text, 0, &len) != 0)
+        return 1;
+    show_text(text, len);
+
+    uint64_t back[PIPELINE_NUMBERS];
+    uint8_t bytes[PACKET_DATA];
+    if (pipeline_packet_read(text, sizeof text, len, back, PIPELINE_NUMBERS, bytes, sizeof bytes) != 0)
+        return 1;
+    for (int i = 0; i < PIPELINE_NUMBERS; i++)
+        if (back[i] != numbers[i])
+            return 1;
+    printf("transaction %llu, %s, nack %llu, sender %llu, piggyback of %llu: %s\n", (unsigned long long)back[PIPELINE_TRANSACTION_ID],
+           phases[back[PIPELINE_STATE]], (unsigned long long)back[PIPELINE_NACK_TX_ID], (unsigned long long)back[PIPELINE_SENDER],
+           (unsigned long long)back[PIPELINE_PIGGYBACK_TX], phases[back[PIPELINE_PIGGYBACK_STATE]]);
+    return 0;
+}
+
+int main(void)
+{
+    return capture() || pipeline();
+}

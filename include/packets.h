@@ -1,0 +1,71 @@
+/* The packet entries of libpackets.a.
+
+   A slice is two parameters: a pointer and the number of its elements. A null pointer with the number 0 is an empty slice; a slice that is written must not
+   overlap another one. Each call answers with its refusal, 0 for none: 9 for a text or numbers that stand for no packet within the limits, 10 for a slice
+   that is too short. A refused call writes nothing. */
+#ifndef PACKETS_H
+#define PACKETS_H
+#include <stddef.h>
+#include <stdint.h>
+
+/* The numbers of a capture packet (CeTwoPcPacket). */
+enum {
+    CE_TERM,
+    CE_PHASE,         /* 0 Prepare, 1 Committed, 2 Aborted */
+    CE_DATA_LEN,      /* at most 32 */
+    CE_BITMAP_LEN,    /* at most 64 */
+    CE_MARKS,         /* entry i of the bitmap is bit i */
+    CE_NUMBERS
+};
+
+/* The numbers of a pipeline packet (TwoPcPacket). */
+enum {
+    PIPELINE_TRANSACTION_ID,
+    PIPELINE_STATE,
+    PIPELINE_BITMAP_LEN,
+    PIPELINE_MARKS,
+    PIPELINE_ABORT_FLAG,            /* 0 or 1 */
+    PIPELINE_NACK_TX_ID,
+    PIPELINE_DATA_LEN,
+    PIPELINE_SENDER,
+    PIPELINE_HAS_PIGGYBACK_TX,      /* 0 or 1 */
+    PIPELINE_PIGGYBACK_TX,          /* 0 if there is none */
+    PIPELINE_HAS_PIGGYBACK_STATE,   /* 0 or 1 */
+    PIPELINE_PIGGYBACK_STATE,       /* 0 if there is none */
+    PIPELINE_NUMBERS
+};
+
+enum { PACKET_DATA = 32, CE_LONGEST = 596, PIPELINE_LONGEST = 758 };
+
+/* Reads the packet whose text the first text_len bytes are. numbers gets CE_NUMBERS numbers, data gets PACKET_DATA bytes, zeros behind the packet's own. */
+uint64_t ce_packet_read(const uint8_t *text, size_t text_count, uint64_t text_len,
+                        uint64_t *numbers, size_t numbers_count,
+                        uint8_t *data, size_t data_count);
+
+/* Writes the text of the packet that the numbers and the data say into buf from index at on; *next becomes the index behind it. */
+uint64_t ce_packet_write(const uint64_t *numbers, size_t numbers_count,
+                         const uint8_t *data, size_t data_count,
+                         uint8_t *buf, size_t buf_count, uint64_t at, uint64_t *next);
+
+/* The same for pipeline packets, with PIPELINE_NUMBERS numbers. */
+uint64_t pipeline_packet_read(const uint8_t *text, size_t text_count, uint64_t text_len,
+                              uint64_t *numbers, size_t numbers_count,
+                              uint8_t *data, size_t data_count);
+
+uint64_t pipeline_packet_write(const uint64_t *numbers, size_t numbers_count,
+                               const uint8_t *data, size_t data_count,
+                               uint8_t *buf, size_t buf_count, uint64_t at, uint64_t *next);
+
+/* Merges the packet text received into the local one, for position node_id of n (1 to 64). *local_len is the local text's length, 0 for none; if there is
+   news, local holds the new text afterwards, *local_len its length, and *news is 1; else *news is 0 and local is as it was. A text that is no packet is no
+   news. Refused: 2 for n, 8 for node_id, 10 for a length over its slice or a new text that does not fit local; then all is as it was. */
+uint64_t ce_packet_merge(uint8_t *local, size_t local_count, uint64_t *local_len,
+                         const uint8_t *received, size_t received_count, uint64_t received_len,
+                         uint64_t n, uint64_t node_id, double abort_probability, uint64_t seed, uint64_t *news);
+
+/* Writes the text of the packet that position initiator of n proposes after the given term, from the start of buf; *next becomes its length. Refused: 2 for n,
+   8 for initiator, 13 if there is no further term, 10 if it does not fit. */
+uint64_t ce_packet_propose(uint64_t term, uint64_t n, uint64_t initiator, double abort_probability, uint64_t seed,
+                           uint8_t *buf, size_t buf_count, uint64_t *next);
+
+#endif
