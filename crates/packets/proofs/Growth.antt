@@ -45,14 +45,14 @@ use Rattle.packets.specs.declared.merging.Draft.{Draft}
 use Rattle.packets.proofs.Safety.{either-cases}
 
 -- the same term, no lower phase
-record Rose (p q : CeTwoPcPacket) : Type 0 where
-  term : q .term ≡ p .term
-  phase : rankOf (p .phase) ≤ rankOf (q .phase)
+pub record Rose (p q : CeTwoPcPacket) : Type 0 where
+  pub term : q .term ≡ p .term
+  pub phase : rankOf (p .phase) ≤ rankOf (q .phase)
 
-rose-refl : (p : CeTwoPcPacket) → Rose p p
+pub rose-refl : (p : CeTwoPcPacket) → Rose p p
 rose-refl p = record { term = refl; phase = omega arith }
 
-rose-trans : {p q r : CeTwoPcPacket} → Rose p q → Rose q r → Rose p r
+pub rose-trans : {p q r : CeTwoPcPacket} → Rose p q → Rose q r → Rose p r
 rose-trans a b = record { term = b .term ∙ a .term; phase = omega arith }
 
 rose-grew : {p q : CeTwoPcPacket} → Rose p q → Grew p q
@@ -63,7 +63,7 @@ unfolding rankOf
 prepare-least p q e = rw e zero-le
 
 module _ (nay : Noes) (n v : ℕ) where
-  voiced-rose : (p : CeTwoPcPacket) (f : TwoPcPhase) → p .phase ≡ f → Rose p (voicedOf nay n v p f)
+  pub voiced-rose : (p : CeTwoPcPacket) (f : TwoPcPhase) → p .phase ≡ f → Rose p (voicedOf nay n v p f)
   unfolding voicedOf decidedOf acknowledgedOf
   voiced-rose p Prepare e =
       either-cases (Rose p) (nay (p .term) v)
@@ -72,7 +72,7 @@ module _ (nay : Noes) (n v : ℕ) where
   voiced-rose p Committed e = record { term = refl; phase = omega arith }
   voiced-rose p Aborted e = record { term = refl; phase = omega arith }
 
-  settled-rose : (d : Draft) (f : TwoPcPhase) → d .packet .phase ≡ f → Rose (d .packet) (settledOf n v d f .packet)
+  pub settled-rose : (d : Draft) (f : TwoPcPhase) → d .packet .phase ≡ f → Rose (d .packet) (settledOf n v d f .packet)
   unfolding settledOf decidedOf
   settled-rose d Prepare e =
       either-cases (λ (c : Draft). Rose (d .packet) (c .packet)) (unanimousOf n (d .packet .«flags_bitmap»))
@@ -81,17 +81,17 @@ module _ (nay : Noes) (n v : ℕ) where
   settled-rose d Committed e = rose-refl (d .packet)
   settled-rose d Aborted e = rose-refl (d .packet)
 
-  ensure-rose : (p : CeTwoPcPacket) → Rose p (ensureOf n p)
+  pub ensure-rose : (p : CeTwoPcPacket) → Rose p (ensureOf n p)
   unfolding ensureOf
   ensure-rose p = record { term = refl; phase = omega arith }
 
-  adopted-rose : (p : CeTwoPcPacket) → Rose p (adoptedOf nay n v p)
+  pub adopted-rose : (p : CeTwoPcPacket) → Rose p (adoptedOf nay n v p)
   unfolding adoptedOf
   adopted-rose p =
       let d : Draft = record { packet = voicedOf nay n v (ensureOf n p) (ensureOf n p .phase); news = true } in
       rose-trans (ensure-rose p) (rose-trans (voiced-rose (ensureOf n p) (ensureOf n p .phase) refl) (settled-rose d (d .packet .phase) refl))
 
-  raised-rose : (l r : CeTwoPcPacket) → Rose l (raisedOf n l r .packet)
+  pub raised-rose : (l r : CeTwoPcPacket) → Rose l (raisedOf n l r .packet)
   unfolding raisedOf
   raised-rose l r =
       either-cases (λ (d : Draft). Rose l (d .packet)) (ltb (rankOf (l .phase)) (rankOf (r .phase)))
@@ -100,7 +100,7 @@ module _ (nay : Noes) (n v : ℕ) where
       (λ y. record { term = refl; phase = omega arith })
       (λ y. rose-refl l))
 
-  own-rose : (d : Draft) → Rose (d .packet) (ownOf nay n v d .packet)
+  pub own-rose : (d : Draft) → Rose (d .packet) (ownOf nay n v d .packet)
   unfolding ownOf
   own-rose d =
       either-cases (λ (c : Draft). Rose (d .packet) (c .packet)) (ltb v (d .packet .«flags_bitmap» .len))

@@ -16,3 +16,6 @@ pub mod Parts
 pub mod Promises
 pub mod Asked
 pub mod Desks
+pub mod Proposing
+pub mod Texting
+pub mod Staying

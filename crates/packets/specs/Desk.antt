@@ -1,8 +1,9 @@
 -- The merge on lent texts, by 01, "Votes and packets" and refusals 2, 8 and 10: the reader, the merge of packets and the writer, in that order.
--- Assumes nothing: these are definitions and statements. The statements are proved in proofs/Desks.antt.
+-- Assumes nothing: these are definitions and statements. The statements are proved in Desks and Texting of proofs/.
 use mathlib.Core.Path.{_≡_}
 use mathlib.Core.Bool.{Bool, true, false, _&&_}
 use mathlib.Core.List.{List}
+use mathlib.Core.Logic.{_⊎_}
 use Prim.Native.Nat.{ℕ}
 use lib.Dec.{leb, ltb, eqb}
 use lib.Ieee.{Float}
@@ -100,3 +101,19 @@ RefusedLeaves =
     → (deskOf s v local len received rlen was .text ≡ local)
     × (deskOf s v local len received rlen was .len ≡ len)
     × (deskOf s v local len received rlen was .news ≡ was)
+
+-- what is read from the local buffer after a call that is not refused is what the merge of packets leaves of what was read before
+abbrev pub TextsFollow : Type 0
+TextsFollow =
+    (s : Voting) (v : ℕ) (local : List ℕ) (len : ℕ) (received : List ℕ) (rlen was : ℕ)
+    → deskOf s v local len received rlen was .refusal ≡ 0
+    → payloadOf (deskOf s v local len received rlen was .text) (deskOf s v local len received rlen was .len)
+    ≡ mergeOf (noOf s) (s .n) v (payloadOf local len) (payloadOf received rlen) .payload
+
+-- a call is refused as 2, 8 or 10, and as nothing else: inside a merge, 9 is no refusal
+abbrev pub Refusals : Type 0
+Refusals =
+    (s : Voting) (v : ℕ) (local : List ℕ) (len : ℕ) (received : List ℕ) (rlen was : ℕ)
+    → (deskOf s v local len received rlen was .refusal ≡ 0)
+    ⊎ ((deskOf s v local len received rlen was .refusal ≡ 2)
+    ⊎ ((deskOf s v local len received rlen was .refusal ≡ 8) ⊎ (deskOf s v local len received rlen was .refusal ≡ 10)))

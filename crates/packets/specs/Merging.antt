@@ -31,7 +31,7 @@ use Rattle.packets.specs.declared.merging.Draft.{Draft}
 abbrev pub Noes : Type 0
 Noes = ℕ → ℕ → Bool
 
--- ---- bitmaps
+-- ---- bitmaps ("Votes and packets")
 
 abbrev pub entry : Bitmap → ℕ → Bool
 entry b i = ltb i (b .len) && has (b .marks) i
@@ -60,7 +60,7 @@ joinNews n a b = anyOf 64 (λ j. (ltb j (a .len) && (ltb j n && entry b j)) && n
 unfoldable pub unanimousOf : ℕ → Bitmap → Bool
 unanimousOf n b = leb n (b .len) && allOf (b .len) (λ j. has (b .marks) j)
 
--- ---- packets
+-- ---- packets ("Votes and packets")
 
 -- Aborted over Committed over Prepare
 unfoldable pub rankOf : TwoPcPhase → ℕ
@@ -122,7 +122,7 @@ ownOf nay n v d =
 unfoldable pub sameTermOf : Noes → ℕ → ℕ → CeTwoPcPacket → CeTwoPcPacket → Draft
 sameTermOf nay n v l r = settled n v (ownOf nay n v (raisedOf n (ensureOf n l) (ensureOf n r)))
 
--- ---- the merge
+-- ---- the merge, in 01's order ("Votes and packets")
 
 -- Redundant never rewrites what is held
 abbrev pub redundant : Payload → Merged
@@ -151,7 +151,7 @@ mergedBy nay n v l p Packet = heardOf nay n v l p (l .held)
 unfoldable pub mergeOf : Noes → ℕ → ℕ → Payload → Payload → Merged
 mergeOf nay n v l r = mergedBy nay n v l (r .packet) (r .held)
 
--- ---- the proposal
+-- ---- the proposal ("Capture round")
 
 -- "tx" and the term in decimal
 abbrev pub proposalText : ℕ → List ℕ
@@ -168,7 +168,7 @@ blank n t = record { term = t; phase = Prepare; «proposal_data» = proposalData
 unfoldable pub proposalOf : Noes → ℕ → ℕ → ℕ → CeTwoPcPacket
 proposalOf nay n v t = adoptedOf nay n v (blank n (add64 t 1))
 
--- ---- what is held
+-- ---- what is held ("Capture round": goal and sleep; "After the rounds": outcome)
 
 -- 0: no packet, and above that the phase
 unfoldable pub standingBy : TwoPcPhase → Held → ℕ

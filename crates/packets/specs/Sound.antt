@@ -1,14 +1,15 @@
 -- What a packet may claim of the votes of its term, and what merging keeps: the laws on which demand 3's agreement rests.
--- Assumes nothing: these are definitions and statements. They are proved in Safety, Growth, Marking and Limits of proofs/.
+-- Assumes nothing: these are definitions and statements. They are proved in Safety, Growth, Marking, Staying, Limits and Proposing of proofs/.
 use mathlib.Core.Path.{_≡_}
 use mathlib.Core.Bool.{Bool, true, false, not, _&&_, _||_}
 use mathlib.Core.Logic.{_⊎_}
 use Prim.Native.Nat.{ℕ, _<_, _≤_}
 use lib.Dec.{ltb, eqb}
+use Rattle.loops.specs.Pick.{either}
 use Rattle.marks.specs.Marks.{has}
 use Rattle.packets.specs.Packets.{ValidCe}
 use Rattle.packets.specs.Votes.{add64}
-use Rattle.packets.specs.Merging.{Noes, entry, rankOf, withState, adoptedOf, sameTermOf, newInfo, mergeOf, proposalOf}
+use Rattle.packets.specs.Merging.{Noes, entry, onlyOf, rankOf, withState, adoptedOf, newInfo, mergeOf, blank, proposalOf}
 use Rattle.packets.specs.declared.TwoPcPhase.{TwoPcPhase}
 use Rattle.packets.specs.declared.TwoPcPhase.the-variants.{Prepare, Committed, Aborted}
 use Rattle.packets.specs.declared.Bitmap.{Bitmap}
@@ -106,6 +107,12 @@ MarksFrom =
     (nay : Noes) (n v : ℕ) (l r : Payload) → mergeOf nay n v l r .payload .held ≡ Packet → (i : ℕ) → entry (leaves nay n v l r .«flags_bitmap») i ≡ true
     → (entry (l .packet .«flags_bitmap») i ≡ true) ⊎ ((entry (r .packet .«flags_bitmap») i ≡ true) ⊎ (i ≡ v))
 
+-- within a term and a phase no mark is lost
+abbrev pub MarksStay : Type 0
+MarksStay =
+    (nay : Noes) (n v : ℕ) (l r : Payload) → l .held ≡ Packet → leaves nay n v l r .term ≡ l .packet .term → leaves nay n v l r .phase ≡ l .packet .phase
+    → (i : ℕ) → i < 64 → entry (l .packet .«flags_bitmap») i ≡ true → entry (leaves nay n v l r .«flags_bitmap») i ≡ true
+
 -- what was news has the own mark
 abbrev pub OwnMark : Type 0
 OwnMark =
@@ -121,3 +128,9 @@ MergesValid = (nay : Noes) (n v : ℕ) (l r : Payload) → n ≤ 64 → ValidHel
 
 abbrev pub ProposesValid : Type 0
 ProposesValid = (nay : Noes) (n v t : ℕ) → n ≤ 64 → ValidCe (proposalOf nay n v t)
+
+-- ---- the proposal in 01's words: Aborted if the own vote is no, else Committed if its maker is alone, else Prepare; with the own mark only
+abbrev pub ProposalSays : Type 0
+ProposalSays =
+    (nay : Noes) (n v t : ℕ) → v < n
+    → proposalOf nay n v t ≡ withState (either (nay (add64 t 1) v) Aborted (either (eqb n 1) Committed Prepare)) (onlyOf n v) (blank n (add64 t 1))

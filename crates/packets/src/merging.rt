@@ -64,6 +64,7 @@ fn larger(a: usize, b: usize) -> usize
     if a < b { b } else { a }
 }
 
+// What is missing up to n is false.
 fn filled(n: usize, b: Bitmap) -> Bitmap
     ensures { λ r. ⌜ r ≡ filledOf n b ⌝ }
 {
@@ -101,6 +102,7 @@ fn offered(n: usize, b: Bitmap) -> u64
     first_of(first_of(b.marks, b.len), n)
 }
 
+// Equal phases: the marks of both, over the first n entries.
 fn joined(n: usize, a: Bitmap, b: Bitmap) -> Bitmap
     ensures { λ r. ⌜ r ≡ joinOf n a b ⌝ }
 {
@@ -111,6 +113,7 @@ fn joined(n: usize, a: Bitmap, b: Bitmap) -> Bitmap
     }
 }
 
+// Whether that join marks anything new.
 fn join_is_news(n: usize, a: Bitmap, b: Bitmap) -> bool
     ensures { λ r. ⌜ r ≡ joinNews n a b ⌝ }
 {
@@ -158,6 +161,7 @@ pub fn ensure_bitmap_len(n: usize, p: CeTwoPcPacket) -> CeTwoPcPacket
     with_state(p, phase, filled(n, b))
 }
 
+// A decision that is made here restarts the bitmap: the marks say from now on who knows it.
 pub fn escalate_to_commit(n: usize, p: CeTwoPcPacket, node_id: usize) -> CeTwoPcPacket
     ensures { λ r. ⌜ r ≡ decidedOf Committed n «node_id» p ⌝ }
 {
@@ -170,6 +174,7 @@ pub fn escalate_to_abort(n: usize, p: CeTwoPcPacket, node_id: usize) -> CeTwoPcP
     with_state(p, TwoPcPhase::Aborted, own_mark_only(n, node_id))
 }
 
+// The own mark, where the bitmap has an entry for it.
 fn acknowledge(p: CeTwoPcPacket, node_id: usize) -> CeTwoPcPacket
     ensures { λ r. ⌜ r ≡ acknowledgedOf «node_id» p ⌝ }
 {
@@ -219,8 +224,8 @@ fn settle(n: usize, d: Draft, node_id: usize) -> Draft
 pub fn adopt_with_local_vote(voting: Voting, p: CeTwoPcPacket, node_id: usize) -> CeTwoPcPacket
     ensures { λ r. ⌜ r ≡ adoptedOf (noOf voting) (voting .n) «node_id» p ⌝ }
 {
-    let own = ensure_bitmap_len(voting.n, p);
-    let packet = voice(voting, own, node_id);
+    let filled = ensure_bitmap_len(voting.n, p);
+    let packet = voice(voting, filled, node_id);
     let d = Draft { packet, news: true };
     let e = settle(voting.n, d, node_id);
     let q = e.packet;
@@ -235,13 +240,13 @@ fn raise(n: usize, l: CeTwoPcPacket, r: CeTwoPcPacket) -> Draft
     let theirs = r.phase;
     let a = l.flags_bitmap;
     let b = r.flags_bitmap;
-    let low = rank(ours);
-    let high = rank(theirs);
-    if low < high {
+    let held = rank(ours);
+    let heard = rank(theirs);
+    if held < heard {
         let packet = with_state(l, theirs, b);
         return Draft { packet, news: true };
     }
-    if low == high {
+    if held == heard {
         let packet = with_state(l, ours, joined(n, a, b));
         let news = join_is_news(n, a, b);
         return Draft { packet, news };
@@ -252,6 +257,7 @@ fn raise(n: usize, l: CeTwoPcPacket, r: CeTwoPcPacket) -> Draft
     }
 }
 
+// Where the own entry is there and unmarked, this position has yet to speak.
 fn own(voting: Voting, d: Draft, node_id: usize) -> Draft
     ensures { λ r. ⌜ r ≡ ownOf (noOf voting) (voting .n) «node_id» d ⌝ }
 {
@@ -267,6 +273,7 @@ fn own(voting: Voting, d: Draft, node_id: usize) -> Draft
     Draft { packet, news: true }
 }
 
+// Both bitmaps are filled before either is used.
 fn merge_same_term(voting: Voting, l: CeTwoPcPacket, r: CeTwoPcPacket, node_id: usize) -> Draft
     ensures { λ d. ⌜ d ≡ sameTermOf (noOf voting) (voting .n) «node_id» l r ⌝ }
 {
@@ -277,6 +284,7 @@ fn merge_same_term(voting: Voting, l: CeTwoPcPacket, r: CeTwoPcPacket, node_id: 
     settle(voting.n, e, node_id)
 }
 
+// The local payload goes back as it came, a short bitmap too.
 fn redundant_merge(local: Payload) -> Merged
     ensures { λ r. ⌜ r ≡ redundant local ⌝ }
 {
@@ -309,6 +317,7 @@ fn conclude(local: Payload, d: Draft) -> Merged
     redundant_merge(local)
 }
 
+// A packet was received. An empty local takes it, and so does one of a lower term.
 fn hear(voting: Voting, local: Payload, p: CeTwoPcPacket, node_id: usize) -> Merged
     ensures { λ r. ⌜ r ≡ heardOf (noOf voting) (voting .n) «node_id» local p (local .held) ⌝ }
 {
@@ -375,6 +384,7 @@ pub fn init_proposal(voting: Voting, term: u64, initiator: usize) -> CeTwoPcPack
     adopt_with_local_vote(voting, blank_packet(voting.n, next), initiator)
 }
 
+// 0 for no packet, then Prepare, Committed, Aborted.
 fn standing(payload: Payload) -> u64
     ensures { λ r. ⌜ r ≡ standingOf payload ⌝ }
 {
@@ -392,12 +402,14 @@ fn standing(payload: Payload) -> u64
     }
 }
 
+// A decision is held.
 pub fn node_goal_reached(payload: Payload) -> bool
     ensures { λ r. ⌜ r ≡ goalOf payload ⌝ }
 {
     1 < standing(payload)
 }
 
+// A decision is held, and its bitmap says that all hold it.
 pub fn node_can_sleep(n: usize, payload: Payload) -> bool
     ensures { λ r. ⌜ r ≡ canSleepOf n payload ⌝ }
 {
@@ -430,6 +442,7 @@ fn all_stand(payloads: [Payload; 64], n: usize, k: u64) -> bool
     true
 }
 
+// All Committed, or all Aborted.
 pub fn network_goal_reached(payloads: [Payload; 64], n: usize) -> bool
     ensures { λ r. ⌜ r ≡ networkGoalOf n payloads ⌝ }
 {

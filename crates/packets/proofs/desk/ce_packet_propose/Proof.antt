@@ -6,17 +6,7 @@ use Rattle.packets.proofs.Desks.{kept, taken, propose-refused, propose-
 use borrow.Author.Needs.{needs}
 use Rattle.packets.proofs.desk.ce_packet_propose.Statement.{statement}
 use Rattle.packets.proofs.desk.ce_packet_propose.Tie as tie
-use Rattle.packets.proofs.desk.ce_packet_propose.Reads as reads
-use Rattle.packets.proofs.desk.ce_packet_propose.Lts as lts
-use Rattle.packets.proofs.desk.propose_refusal.Reads as propose-refusal-reads
-use Rattle.packets.proofs.merging.init_proposal.Reads as init-proposal-reads
-use Rattle.packets.proofs.two_pc_ce.write_ce_packet.Reads as write-ce-packet-reads
 
--- src/desk.rt:162:9
-propose-refusal-requires : tie.Need-propose-refusal-requires
-propose-refusal-requires c κs = search needs
-
--- src/desk.rt:164:9
 returns : tie.Need-returns
 unfolding nextOf
 returns c =
@@ -25,19 +15,6 @@ returns c =
     let e = propose-refused s (a .initiator) (a .term) (a .buf .now) (c .before .propose-refusal .result) (c .before .propose-refusal .ensures) (c .if1 .taken) in
     (ap (λ (x : Wrote). x .refusal) e, (propose-leaves s (a .initiator) (a .term) (a .buf .now) (c .before .propose-refusal .result) (c .before .propose-refusal .ensures) (c .if1 .taken), kept _ _ _ _ e (c .if1 .taken)))
 
--- src/desk.rt:171:9
-init-proposal-requires : tie.Need-init-proposal-requires
-init-proposal-requires c κs = search needs
-
--- src/desk.rt:172:9
-write-ce-packet-requires : tie.Need-write-ce-packet-requires
-write-ce-packet-requires c κs = search needs
-
--- src/desk.rt:174:9
-same-length : tie.Need-same-length
-same-length c = search needs
-
--- src/desk.rt:174:9
 returns-2 : tie.Need-returns-2
 unfolding nextOf
 returns-2 c =
@@ -46,11 +23,6 @@ returns-2 c =
     let e = propose-wrote s (a .initiator) (a .term) (a .buf .now) (c .before .before .before .before .before .before .before .before .propose-refusal .result) (c .before .before .before .before .before .before .before .before .propose-refusal .ensures) (c .before .before .before .before .before .before .before .if1 .left) (c .before .before .before .before .before .before .init-proposal .result) (c .before .before .before .before .before .before .init-proposal .ensures) (c .before .before .before .before .write-ce-packet .result) (c .before .before .before .before .write-ce-packet .ensures .0) in
     (ap (λ (x : Wrote). x .refusal) e, (propose-left s (a .initiator) (a .term) (a .buf .now) (c .before .before .before .before .before .before .before .before .propose-refusal .result) (c .before .before .before .before .before .before .before .before .propose-refusal .ensures) (c .before .before .before .before .before .before .before .if1 .left) (c .before .before .before .before .before .before .init-proposal .result) (c .before .before .before .before .before .before .init-proposal .ensures) (c .before .before .before .before .write-ce-packet .last .0) (c .before .before .before .before .write-ce-packet .ensures .1), kept _ _ _ _ e (c .if2 .taken)))
 
--- src/desk.rt:148:1
-same-length-2 : tie.Need-same-length-2
-same-length-2 c = search needs
-
--- src/desk.rt:148:1
 returns-3 : tie.Need-returns-3
 unfolding nextOf
 returns-3 c =
@@ -63,11 +35,11 @@ pub ce-packet-propose-spec : {M : Type 1} → statement M
 ce-packet-propose-spec =
     tie.close
     (tie.spec
-    propose-refusal-requires
+    (λ c κs. search needs)
     returns
-    init-proposal-requires
-    write-ce-packet-requires
-    same-length
+    (λ c κs. search needs)
+    (λ c κs. search needs)
+    (λ c. search needs)
     returns-2
-    same-length-2
+    (λ c. search needs)
     returns-3)

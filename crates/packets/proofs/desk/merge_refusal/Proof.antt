@@ -4,38 +4,36 @@ use Rattle.packets.specs.Desk.{refusalOf}
 use borrow.Author.Needs.{needs}
 use Rattle.packets.proofs.desk.merge_refusal.Statement.{statement}
 use Rattle.packets.proofs.desk.merge_refusal.Tie as tie
-use Rattle.packets.proofs.desk.merge_refusal.Reads as reads
-use Rattle.packets.proofs.desk.merge_refusal.Lts as lts
 
--- src/desk.rt:42:9
 returns : tie.Need-returns
 unfolding refusalOf
 returns c = rw (c .if1 .taken)
 
--- src/desk.rt:45:9
 returns-2 : tie.Need-returns-2
 unfolding refusalOf
 returns-2 c = rw (lt-ltb 0 (c .before .before .args .n) (omega arith), lt-leb _ _ (c .if2 .taken))
 
--- src/desk.rt:48:9
 returns-3 : tie.Need-returns-3
 unfolding refusalOf
 returns-3 c = rw (lt-ltb 0 (c .before .before .before .args .n) (omega arith), le-leb (c .before .before .before .args .n) 64 (omega arith), le-ltb _ _ (c .if3 .taken))
 
--- src/desk.rt:51:9
 returns-4 : tie.Need-returns-4
 unfolding refusalOf
 returns-4 c = rw (lt-ltb 0 (c .before .before .before .before .args .n) (omega arith), le-leb (c .before .before .before .before .args .n) 64 (omega arith), lt-ltb _ _ (c .before .if3 .left), lt-leb _ _ (c .if4 .taken))
 
--- src/desk.rt:54:9
 returns-5 : tie.Need-returns-5
 unfolding refusalOf
 returns-5 c = rw (lt-ltb 0 (c .before .before .before .before .before .args .n) (omega arith), le-leb (c .before .before .before .before .before .args .n) 64 (omega arith), lt-ltb _ _ (c .before .before .if3 .left), le-leb _ _ (c .before .if4 .left), lt-leb _ _ (c .if5 .taken))
 
--- src/desk.rt:38:1
 returns-6 : tie.Need-returns-6
 unfolding refusalOf
 returns-6 c = rw (lt-ltb 0 (c .before .before .before .before .before .args .n) (omega arith), le-leb (c .before .before .before .before .before .args .n) 64 (omega arith), lt-ltb _ _ (c .before .before .if3 .left), le-leb _ _ (c .before .if4 .left), le-leb _ _ (c .if5 .left))
 
 pub merge-refusal-spec : {M : Type 1} → statement M
-merge-refusal-spec = tie.close (tie.spec returns returns-2 returns-3 returns-4 returns-5 returns-6)
+merge-refusal-spec = tie.close (tie.spec
+    returns
+    returns-2
+    returns-3
+    returns-4
+    returns-5
+    returns-6)

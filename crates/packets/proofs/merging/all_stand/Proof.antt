@@ -11,9 +11,6 @@ use Rattle.packets.specs.Merging.{standingOf, nobody, allHold}
 use borrow.Author.Needs.{needs}
 use Rattle.packets.proofs.merging.all_stand.Statement.{statement}
 use Rattle.packets.proofs.merging.all_stand.Tie as tie
-use Rattle.packets.proofs.merging.all_stand.Reads as reads
-use Rattle.packets.proofs.merging.all_stand.Lts as lts
-use Rattle.packets.proofs.merging.standing.Reads as standing-reads
 
 abbrev Inv-loop : tie.InvT-loop
 Inv-loop n k payloads i₀ i = (i ≤ n) × (allOf i (λ j. eqb (standingOf (getD payloads j nobody)) k) ≡ true)
@@ -21,54 +18,20 @@ Inv-loop n k payloads i₀ i = (i ≤ n) × (allOf i (λ j. eqb (standingOf (get
 abbrev μ-loop : tie.MeasureT-loop
 μ-loop n k payloads i₀ i = n - i
 
--- src/merging.rt:417:9
 returns : tie.Need-returns Inv-loop μ-loop
 unfolding allHold
 returns c = rw (c .if1 .taken)
 
--- src/merging.rt:420:9
 returns-2 : tie.Need-returns-2 Inv-loop μ-loop
 unfolding allHold
 returns-2 c = rw (lt-ltb 0 (c .before .before .args .n) (omega arith), lt-leb (c .before .before .args .n) 64 (c .if2 .taken))
 
--- src/merging.rt:423:5
-loop-holds : tie.Need-loop-holds Inv-loop μ-loop
-loop-holds c = (search needs, all-none _)
-
--- src/merging.rt:424:23
-mul-payload : tie.Need-mul-payload Inv-loop μ-loop
-mul-payload c = search needs
-
--- src/merging.rt:424:23
-array-copy-out-payload : tie.Need-array-copy-out-payload Inv-loop μ-loop
-array-copy-out-payload c = search needs
-
--- src/merging.rt:425:12
-standing-requires : tie.Need-standing-requires Inv-loop μ-loop
-standing-requires c κs = search needs
-
--- src/merging.rt:426:13
 returns-3 : tie.Need-returns-3 Inv-loop μ-loop
 unfolding allHold
 returns-3 c =
     let a = c .before .before .before .before .before .before .before .args in
     rw (lt-ltb 0 (c .before .before .before .before .before .before .before .args .n) (omega arith), le-leb (c .before .before .before .before .before .before .before .args .n) 64 (omega arith)) (sym (all-left _ (c .before .before .before .before .loop .i) (a .n) (c .before .before .before .loop-test .taken) (ap (λ (x : ℕ). eqb x (a .k)) (sym (c .before .standing .ensures)) ∙ ne-eqb _ _ (c .if3 .taken))))
 
--- src/merging.rt:428:9
-add-i : tie.Need-add-i Inv-loop μ-loop
-add-i c = search needs
-
--- src/merging.rt:423:5
-loop-less : tie.Need-loop-less Inv-loop μ-loop
-loop-less c = search needs
-
--- src/merging.rt:423:5
-loop-again : tie.Need-loop-again Inv-loop μ-loop
-loop-again c =
-    let a = c .before .before .before .before .before .before .before .args in
-    (search needs, all-more _ (c .before .before .before .before .loop .i) (c .before .before .before .before .loop .inv .1) (ap (λ (x : ℕ). eqb x (a .k)) (sym (c .before .standing .ensures)) ∙ eq-eqb _ _ (c .if3 .left)))
-
--- src/merging.rt:413:1
 returns-4 : tie.Need-returns-4 Inv-loop μ-loop
 unfolding allHold
 returns-4 c =
@@ -83,12 +46,13 @@ all-stand-spec =
     μ-loop
     returns
     returns-2
-    loop-holds
-    mul-payload
-    array-copy-out-payload
-    standing-requires
+    (λ c. (search needs, all-none _))
+    (λ c. search needs)
+    (λ c. search needs)
+    (λ c κs. search needs)
     returns-3
-    add-i
-    loop-less
-    loop-again
+    (λ c. search needs)
+    (λ c. search needs)
+    (λ c. let a = c .before .before .before .before .before .before .before .args in
+    (search needs, all-more _ (c .before .before .before .before .loop .i) (c .before .before .before .before .loop .inv .1) (ap (λ (x : ℕ). eqb x (a .k)) (sym (c .before .standing .ensures)) ∙ eq-eqb _ _ (c .if3 .left))))
     returns-4)
