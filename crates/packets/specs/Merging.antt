@@ -36,7 +36,7 @@ Noes = ℕ → ℕ → Bool
 abbrev pub entry : Bitmap → ℕ → Bool
 entry b i = ltb i (b .len) && has (b .marks) i
 
--- a bitmap under n entries is filled up to n with false
+-- the entries that a bitmap lacks for n positions are there, and false
 unfoldable pub filledOf : ℕ → Bitmap → Bitmap
 filledOf n b = record { len = max (b .len) n; marks = marks 64 (λ j. ltb j (b .len) && has (b .marks) j) }
 
@@ -44,25 +44,25 @@ filledOf n b = record { len = max (b .len) n; marks = marks 64 (λ j. ltb j (b .
 unfoldable pub markedOf : ℕ → Bitmap → Bitmap
 markedOf v b = record { len = b .len; marks = marks 64 (λ j. ltb j (b .len) && (has (b .marks) j || eqb j v)) }
 
--- n entries with the own mark only
+-- a bitmap for n positions that v alone has marked
 unfoldable pub onlyOf : ℕ → ℕ → Bitmap
 onlyOf n v = record { len = n; marks = marks 64 (λ j. ltb j n && eqb j v) }
 
--- equal phases: the marks of a, and those of b over the first n entries
+-- two bitmaps of one phase: all that a has, and what b has for the n positions
 unfoldable pub joinOf : ℕ → Bitmap → Bitmap → Bitmap
 joinOf n a b = record { len = a .len; marks = marks 64 (λ j. ltb j (a .len) && (has (a .marks) j || (ltb j n && entry b j))) }
 
--- whether b has, over the first n entries, a mark that a has not
+-- whether b knows of one of them that a does not
 unfoldable pub joinNews : ℕ → Bitmap → Bitmap → Bool
 joinNews n a b = anyOf 64 (λ j. (ltb j (a .len) && (ltb j n && entry b j)) && not (has (a .marks) j))
 
--- n entries or more, all true
+-- there is an entry for each of the n positions, and every entry is true, those behind n too
 unfoldable pub unanimousOf : ℕ → Bitmap → Bool
 unanimousOf n b = leb n (b .len) && allOf (b .len) (λ j. has (b .marks) j)
 
 -- ---- packets ("Votes and packets")
 
--- Aborted over Committed over Prepare
+-- which phase outranks which
 unfoldable pub rankOf : TwoPcPhase → ℕ
 rankOf Prepare = 0
 rankOf Committed = 1
@@ -74,7 +74,7 @@ withState f b p = record { term = p .term; phase = f; «proposal_data» = p .«p
 unfoldable pub ensureOf : ℕ → CeTwoPcPacket → CeTwoPcPacket
 ensureOf n p = withState (p .phase) (filledOf n (p .«flags_bitmap»)) p
 
--- decided here: the bitmap restarts with the own mark only
+-- a decision that v makes: nobody else is known to hold it yet
 unfoldable pub decidedOf : TwoPcPhase → ℕ → ℕ → CeTwoPcPacket → CeTwoPcPacket
 decidedOf f n v p = withState f (onlyOf n v) p
 
@@ -89,7 +89,7 @@ voicedOf nay n v p Aborted = acknowledgedOf v p
 
 -- A draft is a packet on its way through a merge, and whether anything in it is new.
 
--- unanimity in Prepare commits
+-- once every vote is in, the packet is Committed
 unfoldable pub settledOf : ℕ → ℕ → Draft → TwoPcPhase → Draft
 settledOf n v d Prepare =
     either (unanimousOf n (d .packet .«flags_bitmap»)) (record { packet = decidedOf Committed n v (d .packet); news = true }) d
@@ -99,11 +99,11 @@ settledOf n v d Aborted = d
 abbrev pub settled : ℕ → ℕ → Draft → Draft
 settled n v d = settledOf n v d (d .packet .phase)
 
--- adopt and vote, whether or not the own entry is marked
+-- a packet is taken over: the own vote is cast in any case, also where its mark is there
 unfoldable pub adoptedOf : Noes → ℕ → ℕ → CeTwoPcPacket → CeTwoPcPacket
 adoptedOf nay n v p = settled n v (record { packet = voicedOf nay n v (ensureOf n p) (ensureOf n p .phase); news = true }) .packet
 
--- same term, both filled: the higher phase with its bitmap; equal phases joined; the data stays the local one
+-- two packets of one term: the phase that outranks the other brings its bitmap, and one phase in both joins the two; the data never moves
 unfoldable pub raisedOf : ℕ → CeTwoPcPacket → CeTwoPcPacket → Draft
 raisedOf n l r =
     either (ltb (rankOf (l .phase)) (rankOf (r .phase)))
@@ -112,7 +112,7 @@ raisedOf n l r =
     (record { packet = withState (l .phase) (joinOf n (l .«flags_bitmap») (r .«flags_bitmap»)) l; news = joinNews n (l .«flags_bitmap») (r .«flags_bitmap») })
     (record { packet = l; news = false }))
 
--- the own entry, if the bitmap has it and it is unmarked
+-- v speaks up if its entry is there and still false
 unfoldable pub ownOf : Noes → ℕ → ℕ → Draft → Draft
 ownOf nay n v d =
     either (ltb v (d .packet .«flags_bitmap» .len))
@@ -124,7 +124,7 @@ sameTermOf nay n v l r = settled n v (ownOf nay n v (raisedOf n (ensureOf n l) (
 
 -- ---- the merge, in 01's order ("Votes and packets")
 
--- Redundant never rewrites what is held
+-- nothing new: what is held goes back as it came
 abbrev pub redundant : Payload → Merged
 redundant l = record { result = Redundant; payload = l }
 
@@ -199,10 +199,10 @@ nobody =
 unfoldable pub allHold : ℕ → ℕ → List Payload → Bool
 allHold n k ls = (ltb 0 n && leb n 64) && allOf n (λ i. eqb (standingOf (getD ls i nobody)) k)
 
--- all Committed, or all Aborted
+-- everybody has the same decision
 unfoldable pub networkGoalOf : ℕ → List Payload → Bool
 networkGoalOf n ls = allHold n 2 ls || allHold n 3 ls
 
--- all Committed is Committed, and anything else Aborted
+-- the proposal stands only if everybody has committed
 unfoldable pub outcomeOf : ℕ → List Payload → ProposalOutcome
 outcomeOf n ls = either (allHold n 2 ls) outcome.Committed outcome.Aborted

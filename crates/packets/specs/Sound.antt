@@ -129,7 +129,7 @@ MergesValid = (nay : Noes) (n v : ℕ) (l r : Payload) → n ≤ 64 → ValidHel
 abbrev pub ProposesValid : Type 0
 ProposesValid = (nay : Noes) (n v t : ℕ) → n ≤ 64 → ValidCe (proposalOf nay n v t)
 
--- ---- the proposal in 01's words: Aborted if the own vote is no, else Committed if its maker is alone, else Prepare; with the own mark only
+-- ---- what 01, "Capture round", says of a proposal: a maker that votes no aborts, a lone one commits, any other waits for votes; the one mark is the maker's
 abbrev pub ProposalSays : Type 0
 ProposalSays =
     (nay : Noes) (n v t : ℕ) → v < n

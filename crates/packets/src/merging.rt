@@ -102,7 +102,7 @@ fn offered(n: usize, b: Bitmap) -> u64
     first_of(first_of(b.marks, b.len), n)
 }
 
-// Equal phases: the marks of both, over the first n entries.
+// Two bitmaps of one phase.
 fn joined(n: usize, a: Bitmap, b: Bitmap) -> Bitmap
     ensures { λ r. ⌜ r ≡ joinOf n a b ⌝ }
 {
@@ -121,7 +121,7 @@ fn join_is_news(n: usize, a: Bitmap, b: Bitmap) -> bool
     fresh != 0
 }
 
-// A bitmap of n entries or more, all true.
+// Everybody has an entry, and no entry is false.
 pub fn has_unanimity(n: usize, b: Bitmap) -> bool
     ensures { λ r. ⌜ r ≡ unanimousOf n b ⌝ }
 {
@@ -161,7 +161,7 @@ pub fn ensure_bitmap_len(n: usize, p: CeTwoPcPacket) -> CeTwoPcPacket
     with_state(p, phase, filled(n, b))
 }
 
-// A decision that is made here restarts the bitmap: the marks say from now on who knows it.
+// Whoever decides starts a new bitmap, whose marks say who knows the decision.
 pub fn escalate_to_commit(n: usize, p: CeTwoPcPacket, node_id: usize) -> CeTwoPcPacket
     ensures { λ r. ⌜ r ≡ decidedOf Committed n «node_id» p ⌝ }
 {
@@ -232,7 +232,7 @@ pub fn adopt_with_local_vote(voting: Voting, p: CeTwoPcPacket, node_id: usize) -
     q
 }
 
-// Aborted over Committed over Prepare; the data stays the local packet's.
+// The phase that outranks the other stays, with its bitmap. The data never moves.
 fn raise(n: usize, l: CeTwoPcPacket, r: CeTwoPcPacket) -> Draft
     ensures { λ d. ⌜ d ≡ raisedOf n l r ⌝ }
 {
@@ -442,7 +442,7 @@ fn all_stand(payloads: [Payload; 64], n: usize, k: u64) -> bool
     true
 }
 
-// All Committed, or all Aborted.
+// Everybody has the same decision.
 pub fn network_goal_reached(payloads: [Payload; 64], n: usize) -> bool
     ensures { λ r. ⌜ r ≡ networkGoalOf n payloads ⌝ }
 {
