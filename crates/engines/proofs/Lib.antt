@@ -1,0 +1,4 @@
+pub mod Drawing
+pub mod Sorting
+pub mod Placing
+pub mod Counts

@@ -1,0 +1,6 @@
+pub mod Limits
+pub mod Words
+pub mod Nodes
+pub mod Rows
+pub mod Metrics
+pub mod Settings

@@ -1,0 +1,51 @@
+-- Document 01, "Slots, counts, rows", and refusal 17: what a row says, when it is due, and where it is written. Assumes nothing.
+use Prim.Native.Nat.{ℕ, _+_, _-_, _*_, _/_, _%_, _^_}
+use mathlib.Core.Bool.{Bool, true, false, _||_}
+use mathlib.Core.List.{List, [], _∷_}
+use lib.Dec.{leb, ltb}
+use lib.ListN.{length, getD}
+use lib.Seq.{sets}
+use Rattle.loops.specs.Pick.{either}
+use Rattle.loops.specs.Highest.{highest}
+use Rattle.marks.specs.Marks.{countOf}
+use Rattle.engines.specs.Limits.{few}
+use Rattle.engines.specs.Nodes.{noNode, setsOf}
+use Rattle.engines.specs.declared.node.Node.{Node}
+use Rattle.engines.specs.declared.rows.Row.{Row}
+
+unfoldable pub highestProgress : ℕ → List Node → ℕ
+highestProgress n l = highest (few n) (λ i. getD l i noNode .«progress_count»)
+
+-- A row: the slot, the highest progress, and how many positions listen, flood and sleep.
+unfoldable pub rowOf : ℕ → ℕ → List Node → Row
+rowOf slot n l =
+    record {
+      slot = slot;
+      progress = highestProgress n l;
+      listening = countOf (setsOf n l .listening) 64;
+      flooding = countOf (setsOf n l .flooding) 64;
+      sleeping = countOf (setsOf n l .sleeping) 64;
+    }
+
+-- A row is due once the slot has reached the next row slot, which is then higher by the interval.
+unfoldable pub isDue : ℕ → ℕ → Bool
+isDue next slot = leb next slot
+
+unfoldable pub nextRow : ℕ → ℕ → ℕ → ℕ
+nextRow next interval slot = either (isDue next slot) ((next + interval) % 2 ^ 64) next
+
+-- the five numbers
+abbrev pub cells : Row → List ℕ
+cells r = r .slot ∷ r .progress ∷ r .listening ∷ r .flooding ∷ r .sleeping ∷ []
+
+-- A row at the start of a part, if the part holds it whole.
+unfoldable pub putRow : List ℕ → Row → List ℕ
+putRow part r = either (ltb (length part) 5) part (sets part 0 (cells r))
+
+-- A row behind the rows already used, if the rest holds it whole; all else stays.
+unfoldable pub putBehind : List ℕ → ℕ → Row → List ℕ
+putBehind rows used r = either (leb (used * 5 + 5) (length rows)) (sets rows (used * 5) (cells r)) rows
+
+-- Refusal 17: more rows used than the buffer has numbers for, or more due than the unused part holds whole.
+unfoldable pub rowsRefused : ℕ → ℕ → ℕ → Bool
+rowsRefused numbers used due = ltb numbers (used * 5) || ltb ((numbers - used * 5) / 5) due

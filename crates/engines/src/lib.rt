@@ -1,0 +1,8 @@
+// What both rounds are made of: words and draws, ticks and counts, rows, metrics and settings; and the plan of a capture
+// slot. The third of the four layers.
+pub mod limits;
+pub mod metrics;
+pub mod node;
+pub mod rows;
+pub mod settings;
+pub mod words;
