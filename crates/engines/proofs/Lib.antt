@@ -2,3 +2,5 @@ pub mod Drawing
 pub mod Sorting
 pub mod Placing
 pub mod Counts
+pub mod Marking
+pub mod Hearing

@@ -3,6 +3,7 @@
 pub mod limits;
 pub mod metrics;
 pub mod node;
+pub mod plan;
 pub mod rows;
 pub mod settings;
 pub mod words;

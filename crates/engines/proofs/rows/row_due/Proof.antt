@@ -3,13 +3,11 @@ use Rattle.engines.specs.Rows.{isDue}
 use borrow.Author.Needs.{needs}
 use Rattle.engines.proofs.rows.row_due.Statement.{statement}
 use Rattle.engines.proofs.rows.row_due.Tie as tie
-use Rattle.engines.proofs.rows.row_due.Reads as reads
-use Rattle.engines.proofs.rows.row_due.Lts as lts
 
--- src/rows.rt:54:1
 returns : tie.Need-returns
 unfolding isDue
 returns c = refl
 
 pub row-due-spec : {M : Type 1} → statement M
-row-due-spec = tie.close (tie.spec returns)
+row-due-spec = tie.close (tie.spec
+    returns)

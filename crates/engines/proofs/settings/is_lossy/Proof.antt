@@ -3,13 +3,11 @@ use Rattle.engines.specs.Settings.{isLossy}
 use borrow.Author.Needs.{needs}
 use Rattle.engines.proofs.settings.is_lossy.Statement.{statement}
 use Rattle.engines.proofs.settings.is_lossy.Tie as tie
-use Rattle.engines.proofs.settings.is_lossy.Reads as reads
-use Rattle.engines.proofs.settings.is_lossy.Lts as lts
 
--- src/settings.rt:28:1
 returns : tie.Need-returns
 unfolding isLossy
 returns c = refl
 
 pub is-lossy-spec : {M : Type 1} → statement M
-is-lossy-spec = tie.close (tie.spec returns)
+is-lossy-spec = tie.close (tie.spec
+    returns)

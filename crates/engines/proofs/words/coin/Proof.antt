@@ -3,13 +3,11 @@ use Rattle.engines.specs.Words.{coinOf}
 use borrow.Author.Needs.{needs}
 use Rattle.engines.proofs.words.coin.Statement.{statement}
 use Rattle.engines.proofs.words.coin.Tie as tie
-use Rattle.engines.proofs.words.coin.Reads as reads
-use Rattle.engines.proofs.words.coin.Lts as lts
 
--- src/words.rt:57:1
 returns : tie.Need-returns
 unfolding coinOf
 returns c = refl
 
 pub coin-spec : {M : Type 1} → statement M
-coin-spec = tie.close (tie.spec returns)
+coin-spec = tie.close (tie.spec
+    returns)

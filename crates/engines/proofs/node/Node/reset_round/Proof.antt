@@ -3,13 +3,11 @@ use Rattle.engines.specs.Nodes.{resetRound}
 use borrow.Author.Needs.{needs}
 use Rattle.engines.proofs.node.Node.reset_round.Statement.{statement}
 use Rattle.engines.proofs.node.Node.reset_round.Tie as tie
-use Rattle.engines.proofs.node.Node.reset_round.Reads as reads
-use Rattle.engines.proofs.node.Node.reset_round.Lts as lts
 
--- src/node.rt:43:5
 returns : tie.Need-returns
 unfolding resetRound
 returns c = refl
 
 pub reset-round-spec : {M : Type 1} → statement M
-reset-round-spec = tie.close (tie.spec returns)
+reset-round-spec = tie.close (tie.spec
+    returns)
