@@ -4,3 +4,5 @@ pub mod Placing
 pub mod Counts
 pub mod Marking
 pub mod Hearing
+pub mod Joining
+pub mod Flooding

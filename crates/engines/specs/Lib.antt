@@ -6,3 +6,5 @@ pub mod Rows
 pub mod Metrics
 pub mod Settings
 pub mod Plan
+pub mod Flood
+pub mod Pending

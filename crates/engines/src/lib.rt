@@ -1,9 +1,13 @@
 // What both rounds are made of: words and draws, ticks and counts, rows, metrics and settings; and the plan of a capture
 // slot. The third of the four layers.
+pub mod flood;
+mod ledger;
 pub mod limits;
 pub mod metrics;
 pub mod node;
+mod pending;
 pub mod plan;
 pub mod rows;
 pub mod settings;
+pub mod two_pc_pipeline;
 pub mod words;
