@@ -6,3 +6,4 @@ pub mod Marking
 pub mod Hearing
 pub mod Joining
 pub mod Flooding
+pub mod Taking

@@ -8,3 +8,4 @@ pub mod Settings
 pub mod Plan
 pub mod Flood
 pub mod Pending
+pub mod Pipeline

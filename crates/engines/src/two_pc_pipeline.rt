@@ -33,5 +33,30 @@ pub struct Vote {
 // An outcome that a packet tells besides: the transaction, and whether it was committed.
 pub enum Piggyback {
     Absent,
-    Present { tx: u64, committed: bool },
+    Present(usize, bool),
+}
+
+// What a round's packet says. The rest of a TwoPcPacket follows: the phase is Prepare, the bitmap has an entry for each
+// position, and the data is that of the transaction if it is new.
+pub struct RoundPacket {
+    pub tx: usize,
+    pub bits: u64,
+    pub abort: bool,
+    pub nack: usize,
+    pub fresh: bool,
+    pub sender: usize,
+    pub piggyback: Piggyback,
+}
+
+// The room's records: the outcomes in the order in which they were recorded, and the slot at which each transaction's was.
+pub struct Book {
+    pub log: TxLog,
+    pub ends: [u64; 64],
+}
+
+// How many transactions were generated, and for each the slot and the round in which it was.
+pub struct Txs {
+    pub counter: usize,
+    pub starts: [u64; 64],
+    pub rounds: [u64; 64],
 }
