@@ -7,3 +7,6 @@ pub mod Hearing
 pub mod Joining
 pub mod Flooding
 pub mod Taking
+pub mod Sums
+pub mod Growth
+pub mod Rounding

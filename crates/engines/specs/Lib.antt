@@ -9,3 +9,4 @@ pub mod Plan
 pub mod Flood
 pub mod Pending
 pub mod Pipeline
+pub mod Round

@@ -7,6 +7,7 @@ pub mod metrics;
 pub mod node;
 mod packet;
 mod pending;
+pub mod pipeline;
 pub mod plan;
 mod prepare;
 mod process;
