@@ -10,3 +10,6 @@ pub mod Taking
 pub mod Sums
 pub mod Growth
 pub mod Rounding
+pub mod Logs
+pub mod Totals
+pub mod PipelineCases

@@ -50,7 +50,7 @@ pub record Sums (n base slot : ℕ) (l : List Node) : Type 0 where
   pub low : Below (suc slot) l
   pub sum : total l ≡ base + n * slot
 
-kept-sums : {n base slot : ℕ} (g : Node → Node) → ((v : Node) → Alike (g v) v) → (l : List Node) (i : ℕ) → Sums n base slot l → Sums n base slot (set l i (g (getD l i noNode)))
+pub kept-sums : {n base slot : ℕ} (g : Node → Node) → ((v : Node) → Alike (g v) v) → (l : List Node) (i : ℕ) → Sums n base slot l → Sums n base slot (set l i (g (getD l i noNode)))
 kept-sums g same l i s =
     record {
       long = omega (arith, s .long, length-set l i (g (getD l i noNode)));

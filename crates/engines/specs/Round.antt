@@ -3,7 +3,7 @@ use Prim.Native.Nat.{ℕ, _+_, _%_, _^_}
 use mathlib.Core.Bool.{Bool, true, false, _||_, _&&_}
 use mathlib.Core.List.{List, []}
 use lib.Dec.{eqb, ltb, leb}
-use lib.ListN.{length, getD, set}
+use lib.ListN.{length, getD, set, replicate}
 use mir.Val.{boolByte}
 use Rattle.loops.specs.Pick.{either}
 use Rattle.loops.specs.Upto.{upto}
@@ -12,16 +12,18 @@ use Rattle.packets.specs.Packets.{pipelineText, pipelineWithin}
 use Rattle.packets.specs.Writing.{textLen}
 use Rattle.engines.specs.Limits.{few}
 use Rattle.engines.specs.Marked.{overMarks}
-use Rattle.engines.specs.Nodes.{inc, setsOf}
+use Rattle.engines.specs.Nodes.{inc, noNode, setsOf}
 use Rattle.engines.specs.Rows.{rowsRefused}
 use Rattle.engines.specs.Flood.{floodStart, floodRound, writtenRound}
-use Rattle.engines.specs.Pending.{joinMarks}
+use Rattle.engines.specs.Metrics.{noMetrics}
+use Rattle.engines.specs.Pending.{noEntry, joinMarks}
 use Rattle.engines.specs.Pipeline.{packetOf, samePacket, noState, prepareRound, partsOf, Processing, processAll, shortestLog, progressAll, stopsAt}
 use Rattle.engines.specs.declared.words.Draw.{Draw}
 use Rattle.engines.specs.declared.node.Node.{Node}
 use Rattle.engines.specs.declared.metrics.MetricsCollector.{MetricsCollector}
 use Rattle.engines.specs.declared.flood.FloodConf.{FloodConf}
 use Rattle.engines.specs.declared.flood.FloodRun.{FloodRun}
+use Rattle.engines.specs.declared.two_pc_pipeline.TxLog.{TxLog}
 use Rattle.engines.specs.declared.two_pc_pipeline.NodeTwoPcState.{NodeTwoPcState}
 use Rattle.engines.specs.declared.two_pc_pipeline.Piggyback.the-variants.{Absent, Present}
 use Rattle.engines.specs.declared.two_pc_pipeline.RoundPacket.{RoundPacket}
@@ -37,6 +39,35 @@ use Rattle.engines.specs.declared.pipeline.RoundAnswer.{RoundAnswer}
 
 abbrev pub noPacket : RoundPacket
 noPacket = record { tx = 0; bits = 0; abort = false; nack = 0; fresh = false; sender = 0; piggyback = Absent }
+
+-- ---- a room as opened
+
+abbrev pub newLog : TxLog
+newLog = record { len = 0; entries = replicate 64 noEntry }
+
+abbrev pub newState : NodeTwoPcState
+newState = record { log = newLog; pending = 0; aborts = 0; votes = replicate 64 0 }
+
+-- Slot 0, counts 0, logs empty, and nobody holds a packet.
+unfoldable pub newPipeline : Pipeline
+newPipeline =
+    record {
+      at = replicate 64 noNode;
+      metrics = noMetrics;
+      slot = 0;
+      next = 0;
+      round = 0;
+      sent = 0;
+      states = replicate 64 newState;
+      txs = record { counter = 0; starts = replicate 64 0; rounds = replicate 64 0 };
+      piggyback = Absent;
+      stop = false;
+      book = record { log = newLog; ends = replicate 64 0 };
+      payloads = replicate 64 noPacket;
+      holding = 0;
+    }
+
+-- ---- delivery
 
 -- Whoever takes part holds the round's packet from now on.
 abbrev pub deliverAt : RoundPacket → ℕ → List RoundPacket → List RoundPacket

@@ -8,7 +8,7 @@ ghost use mir.Val.{boolByte};
 ghost use Rattle.loops.specs.Pick.{either};
 ghost use Rattle.engines.specs.Nodes.{inc};
 ghost use Rattle.engines.specs.Pipeline.{samePacket};
-ghost use Rattle.engines.specs.Round.{deliverAll, coveredOf, preparing, floodConf, floodFrom, countedIn, closeRound, floodOf, runRound, rowsOfRound, earlyOf, lateOf, roundAnswer, roundBuffer, refusedWith};
+ghost use Rattle.engines.specs.Round.{newPipeline, deliverAll, coveredOf, preparing, floodConf, floodFrom, countedIn, closeRound, floodOf, runRound, rowsOfRound, earlyOf, lateOf, roundAnswer, roundBuffer, refusedWith};
 use super::flood;
 use super::flood::FloodConf;
 use super::flood::FloodRun;
@@ -26,9 +26,11 @@ use super::process::RoundFacts;
 use super::rows;
 use super::settings::Settings;
 use super::two_pc_pipeline::Book;
+use super::two_pc_pipeline::LogEntry;
 use super::two_pc_pipeline::NodeTwoPcState;
 use super::two_pc_pipeline::Piggyback;
 use super::two_pc_pipeline::RoundPacket;
+use super::two_pc_pipeline::TxLog;
 use super::two_pc_pipeline::Txs;
 use super::words::Draw;
 use graph::sets;
@@ -75,6 +77,63 @@ pub struct RoundAnswer {
     pub refusal: u64,
     pub cursor: usize,
     pub pipe: Pipeline,
+}
+
+impl Pipeline {
+    // A room as opened: slot 0, counts 0, logs empty, and nobody holds a packet.
+    pub fn new() -> Pipeline
+        ensures { λ r. ⌜ r ≡ newPipeline ⌝ }
+    {
+        let e = LogEntry {
+            tx: 0,
+            committed: false,
+        };
+        let entries = [e; 64];
+        let log = TxLog { len: 0, entries };
+        let votes = [0u64; 64];
+        let s = NodeTwoPcState {
+            log,
+            pending: 0,
+            aborts: 0,
+            votes,
+        };
+        let v = Node::new();
+        let metrics = MetricsCollector::new();
+        let q = RoundPacket {
+            tx: 0,
+            bits: 0,
+            abort: false,
+            nack: 0,
+            fresh: false,
+            sender: 0,
+            piggyback: Piggyback::Absent,
+        };
+        let at = [v; 64];
+        let states = [s; 64];
+        let payloads = [q; 64];
+        let starts = [0u64; 64];
+        let rounds = [0u64; 64];
+        let ends = [0u64; 64];
+        Pipeline {
+            at,
+            metrics,
+            slot: 0,
+            next: 0,
+            round: 0,
+            sent: 0,
+            states,
+            txs: Txs {
+                counter: 0,
+                starts,
+                rounds,
+            },
+            piggyback: Piggyback::Absent,
+            stop: false,
+            book: Book { log, ends },
+            payloads,
+            holding: 0,
+        }
+    }
 }
 
 // Whoever takes part holds the packet from now on.

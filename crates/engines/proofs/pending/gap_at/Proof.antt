@@ -4,28 +4,22 @@ use Rattle.engines.specs.Pending.{gapAt}
 use borrow.Author.Needs.{needs}
 use Rattle.engines.proofs.pending.gap_at.Statement.{statement}
 use Rattle.engines.proofs.pending.gap_at.Tie as tie
-use Rattle.engines.proofs.pending.gap_at.Reads as reads
-use Rattle.engines.proofs.pending.gap_at.Lts as lts
-use Rattle.graph.proofs.sets.is_marked.Reads as is-marked-reads
 
--- src/pending.rt:171:9
 returns : tie.Need-returns
 unfolding gapAt
 returns c = rw (ne-eqb _ _ (c .if1 .taken))
 
--- src/pending.rt:173:8
-is-marked-requires : tie.Need-is-marked-requires
-is-marked-requires c κs = search needs
-
--- src/pending.rt:174:9
 returns-2 : tie.Need-returns-2
 unfolding gapAt
 returns-2 c = rw (eq-eqb _ _ (c .before .before .if1 .left), sym (c .before .is-marked .ensures) ∙ c .if2 .taken)
 
--- src/pending.rt:167:1
 returns-3 : tie.Need-returns-3
 unfolding gapAt
 returns-3 c = rw (eq-eqb _ _ (c .before .before .if1 .left), sym (c .before .is-marked .ensures) ∙ c .if2 .left)
 
 pub gap-at-spec : {M : Type 1} → statement M
-gap-at-spec = tie.close (tie.spec returns is-marked-requires returns-2 returns-3)
+gap-at-spec = tie.close (tie.spec
+    returns
+    (λ c κs. search needs)
+    returns-2
+    returns-3)

@@ -3,28 +3,22 @@ use Rattle.engines.specs.Round.{lateOf}
 use borrow.Author.Needs.{needs}
 use Rattle.engines.proofs.pipeline.late_refusal.Statement.{statement}
 use Rattle.engines.proofs.pipeline.late_refusal.Tie as tie
-use Rattle.engines.proofs.pipeline.late_refusal.Reads as reads
-use Rattle.engines.proofs.pipeline.late_refusal.Lts as lts
-use Rattle.engines.proofs.rows.rows_refused.Reads as rows-refused-reads
 
--- src/pipeline.rt:389:9
 returns : tie.Need-returns
 unfolding lateOf
 returns c = rw (c .if1 .taken)
 
--- src/pipeline.rt:391:8
-rows-refused-requires : tie.Need-rows-refused-requires
-rows-refused-requires c κs = search needs
-
--- src/pipeline.rt:392:9
 returns-2 : tie.Need-returns-2
 unfolding lateOf
 returns-2 c = rw (c .before .before .if1 .left, sym (c .before .rows-refused .ensures) ∙ c .if2 .taken)
 
--- src/pipeline.rt:385:1
 returns-3 : tie.Need-returns-3
 unfolding lateOf
 returns-3 c = rw (c .before .before .if1 .left, sym (c .before .rows-refused .ensures) ∙ c .if2 .left)
 
 pub late-refusal-spec : {M : Type 1} → statement M
-late-refusal-spec = tie.close (tie.spec returns rows-refused-requires returns-2 returns-3)
+late-refusal-spec = tie.close (tie.spec
+    returns
+    (λ c κs. search needs)
+    returns-2
+    returns-3)

@@ -6,33 +6,15 @@ use Rattle.engines.specs.Pipeline.{knownVotes}
 use borrow.Author.Needs.{needs}
 use Rattle.engines.proofs.prepare.known_votes.Statement.{statement}
 use Rattle.engines.proofs.prepare.known_votes.Tie as tie
-use Rattle.engines.proofs.prepare.known_votes.Reads as reads
-use Rattle.engines.proofs.prepare.known_votes.Lts as lts
-use Rattle.graph.proofs.sets.is_marked.Reads as is-marked-reads
 
--- src/prepare.rt:174:9
 returns : tie.Need-returns
 unfolding knownVotes
 returns c = rw (has-out 64 (c .before .args .s .pending) (c .before .args .t) (omega arith) (c .if1 .taken))
 
--- src/prepare.rt:176:9
-is-marked-requires : tie.Need-is-marked-requires
-is-marked-requires c κs = search needs
-
--- src/prepare.rt:177:9
 returns-2 : tie.Need-returns-2
 unfolding knownVotes
 returns-2 c = rw (sym (c .before .is-marked .ensures) ∙ not-true _ (c .if2 .taken))
 
--- src/prepare.rt:180:5
-mul-result : tie.Need-mul-result
-mul-result c = search needs
-
--- src/prepare.rt:180:5
-array-read-result : tie.Need-array-read-result
-array-read-result c = search needs
-
--- src/prepare.rt:170:1
 returns-3 : tie.Need-returns-3
 unfolding knownVotes
 returns-3 c = rw (sym (c .before .before .is-marked .ensures) ∙ not-false _ (c .before .if2 .left))
@@ -40,4 +22,10 @@ returns-3 c = rw (sym (c .before .before .is-marked .ensures) ∙ not-false _ (c
 pub known-votes-spec : {M : Type 1} → statement M
 known-votes-spec =
     tie.close
-    (tie.spec returns is-marked-requires returns-2 mul-result array-read-result returns-3)
+    (tie.spec
+    returns
+    (λ c κs. search needs)
+    returns-2
+    (λ c. search needs)
+    (λ c. search needs)
+    returns-3)

@@ -6,33 +6,27 @@ use Rattle.engines.specs.Pipeline.{stopsAt}
 use borrow.Author.Needs.{needs}
 use Rattle.engines.proofs.process.stops.Statement.{statement}
 use Rattle.engines.proofs.process.stops.Tie as tie
-use Rattle.engines.proofs.process.stops.Reads as reads
-use Rattle.engines.proofs.process.stops.Lts as lts
-use Rattle.engines.proofs.process.all_done.Reads as all-done-reads
 
--- src/process.rt:297:8
-all-done-requires : tie.Need-all-done-requires
-all-done-requires c κs = search needs
-
--- src/process.rt:298:9
 returns : tie.Need-returns
 unfolding stopsAt
 returns c = rw (sym (c .before .all-done .ensures) ∙ c .if1 .taken)
 
--- src/process.rt:301:9
 returns-2 : tie.Need-returns-2
 unfolding stopsAt
 returns-2 c = rw (sym (c .before .before .all-done .ensures) ∙ c .before .if1 .left, le-ltb (c .before .before .before .args .num-txs + 1000) (c .before .before .before .args .round) (omega arith))
 
--- src/process.rt:294:1
 returns-3 : tie.Need-returns-3
 unfolding stopsAt
 returns-3 c = rw (sym (c .before .before .before .all-done .ensures) ∙ c .before .before .if1 .left, lt-ltb (c .before .before .before .before .args .num-txs + 1000) (c .before .before .before .before .args .round) (omega arith))
 
--- src/process.rt:294:1
 returns-4 : tie.Need-returns-4
 unfolding stopsAt
 returns-4 c = rw (sym (c .before .before .before .all-done .ensures) ∙ c .before .before .if1 .left, le-ltb (c .before .before .before .before .args .num-txs + 1000) (c .before .before .before .before .args .round) (omega arith))
 
 pub stops-spec : {M : Type 1} → statement M
-stops-spec = tie.close (tie.spec all-done-requires returns returns-2 returns-3 returns-4)
+stops-spec = tie.close (tie.spec
+    (λ c κs. search needs)
+    returns
+    returns-2
+    returns-3
+    returns-4)
