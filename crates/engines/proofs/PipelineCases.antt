@@ -24,6 +24,8 @@ use Rattle.engines.specs.declared.node.Node.{Node}
 use Rattle.engines.specs.declared.node.NodeState.the-variants.{Listen, Flood, Sleep}
 use Rattle.engines.specs.declared.settings.Settings.{Settings}
 use Rattle.engines.specs.declared.two_pc_pipeline.NodeTwoPcState.{NodeTwoPcState}
+use Rattle.engines.specs.declared.two_pc_pipeline.RoundPacket.{RoundPacket}
+use Rattle.packets.specs.declared.TwoPcPhase.the-variants.{Prepare}
 use Rattle.engines.specs.declared.pipeline.PipelineConf.{PipelineConf}
 use Rattle.engines.specs.declared.pipeline.Pipeline.{Pipeline}
 use Rattle.engines.specs.declared.pipeline.RoundRun.{RoundRun}
@@ -84,3 +86,8 @@ hasFirst = record { log = record { len = 1; entries = replicate 64 noEntry }; pe
 pub no-nack : (nackOf 2 newState ≡ 0) × (nackOf 2 hasFirst ≡ 1)
 unfolding nackOf gapOf gapAt joinMarks loggedOf loggedAt withMark upto marks
 no-nack = (refl, refl)
+
+-- Every packet of a pipeline room is in Prepare: it gives no position a phase that could be Committed or Aborted.
+pub in-prepare : (n : ℕ) (q : RoundPacket) → packetOf n q .state ≡ Prepare
+unfolding packetOf
+in-prepare n q = refl
