@@ -23,7 +23,10 @@ use Rattle.engines.specs.Flood.{framed, hearAt, hearersOf, sendAt, flood
 use Rattle.engines.specs.declared.node.Node.{Node}
 use Rattle.engines.specs.declared.node.NodeState.the-variants.{Listen, Flood, Sleep}
 use Rattle.engines.specs.declared.settings.Settings.{Settings}
+use Rattle.engines.specs.declared.two_pc_pipeline.TxLog.{TxLog}
 use Rattle.engines.specs.declared.two_pc_pipeline.NodeTwoPcState.{NodeTwoPcState}
+use Rattle.engines.specs.declared.two_pc_pipeline.RoundPacket.{RoundPacket}
+use Rattle.packets.specs.declared.TwoPcPhase.the-variants.{Prepare}
 use Rattle.engines.specs.declared.pipeline.PipelineConf.{PipelineConf}
 use Rattle.engines.specs.declared.pipeline.Pipeline.{Pipeline}
 use Rattle.engines.specs.declared.pipeline.RoundRun.{RoundRun}
@@ -84,3 +87,47 @@ hasFirst = record { log = record { len = 1; entries = replicate 64 noEntry }; pe
 pub no-nack : (nackOf 2 newState ≡ 0) × (nackOf 2 hasFirst ≡ 1)
 unfolding nackOf gapOf gapAt joinMarks loggedOf loggedAt withMark upto marks
 no-nack = (refl, refl)
+
+-- Every packet of a pipeline room is in Prepare: it gives no position a phase that could be Committed or Aborted.
+pub in-prepare : (n : ℕ) (q : RoundPacket) → packetOf n q .state ≡ Prepare
+unfolding packetOf
+in-prepare n q = refl
+
+-- The Rust's answer on a line of 2 with T = 1 and loss 1/2: frames are lost such that position 0 logs Aborted in round 2 and
+-- position 1, in the same round, Committed; 899 bytes, all five words drawn, and the room stops.
+abbrev pub mixed : PipelineConf
+mixed =
+    record {
+      n = 2;
+      links = 2 ∷ 1 ∷ replicate 62 0;
+      settings =
+          record {
+            «loss_rate» = ofBits binary64 0x3FE0_0000_0000_0000;
+            «abort_probability» = ofBits binary64 0;
+            seed = 0;
+            «listen_timeout» = 0;
+            «flood_repeats» = 1;
+            «round_slots» = 0;
+            «slots_given» = false;
+          };
+      txs = 1;
+      interval = 4294967295;
+      bound = 4294967295;
+      length = 3;
+    }
+
+abbrev pub mixedWords : List ℕ
+mixedWords = 18446744073709551615 ∷ 18446744073709551615 ∷ 0 ∷ 0 ∷ 18446744073709551615 ∷ []
+
+abbrev pub again : RoundRun → RoundRun
+again x = runRound mixedWords mixed (x .pipe) (x .draw)
+
+abbrev pub mixedEnd : RoundRun
+mixedEnd = again (again (runRound mixedWords mixed newPipeline (startDraw 0)))
+
+abbrev pub logAt : ℕ → TxLog
+logAt i = getD (mixedEnd .pipe .states) i noState .log
+
+pub opposite-outcomes : (mixedEnd .pipe .sent ≡ 899) × (mixedEnd .pipe .stop ≡ true) × (mixedEnd .draw .at ≡ 5) × (mixedEnd .draw .short ≡ false) × (logAt 0 .len ≡ 1) × (getD (logAt 0 .entries) 0 noEntry .committed ≡ false) × (logAt 1 .len ≡ 1) × (getD (logAt 1 .entries) 0 noEntry .committed ≡ true)
+unfolding resetRound ticked tickAt tickedAll listens floods sleeps setsOf isDue nextRow rowsRefused nextOf unitOf lostOf overMarks withMark framed hearAt hearersOf sendAt floodPlan afterFlood afterListen nextNode turnAt turnedAll nobodyFloods sentAfter dueAfter floodSlot resetAt resetAll floodStart floodRound joinMarks commonMarks withoutMark loggedAt loggedOf outcomeAt outcomeOf pushed finalizeTx unanimousOf openTx votesAt mergeVotes mergeAbort gapAt gapOf nackOf voteOf isJudged judgeAt judged fastOf abortAll ownVote dataOf packetOf samePacket recordTx isFresh beginTx recordDue recordJudged abortOf knownVotes roundPacket prepareRound isNew hearNew mergeRound recordAborts takeUp isAnswer answerNack processOne partsOf processAt processAll shorterAt shortestLog progressAt progressAll stopsAt deliverAll isCovered coverAt coveredOf initiatorOf preparing floodConf floodFrom closeRound floodOf runRound newPipeline upto downto go marks allOf countOf marksOf pipelineText bitmapText dataText limits decimal decimalF listText itemsText eq lt div ofInt round units odd span climb size ofBits ofFields
+opposite-outcomes = (refl, refl, refl, refl, refl, refl, refl, refl)
