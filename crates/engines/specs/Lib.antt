@@ -10,3 +10,7 @@ pub mod Turns
 pub mod Cases
 pub mod Ce
 pub mod Capture
+pub mod Flood
+pub mod Pending
+pub mod Pipeline
+pub mod Round
