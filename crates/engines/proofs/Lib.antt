@@ -15,6 +15,7 @@ pub mod Settling
 pub mod Joining
 pub mod Flooding
 pub mod Taking
+pub mod Recorded
 pub mod Sums
 pub mod Growth
 pub mod Rounding

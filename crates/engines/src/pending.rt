@@ -54,11 +54,13 @@ pub fn finalize_tx(s: NodeTwoPcState, t: usize, committed: bool) -> NodeTwoPcSta
     }
 }
 
-// Everybody has voted yes, and nobody no.
+// Everybody has voted yes, and nobody no. A number of 64 or more is never pending.
 pub fn check_unanimity(n: usize, s: NodeTwoPcState, t: usize) -> bool
-    requires { ⌜ t < 64 ⌝ }
     ensures { λ r. ⌜ r ≡ unanimousOf n s t ⌝ }
 {
+    if t >= 64 {
+        return false;
+    }
     if !sets::is_marked(s.pending, t) {
         return false;
     }

@@ -35,11 +35,13 @@ pub struct Prepared {
     pub draw: Draw,
 }
 
-// The outcome of a transaction, unless one is recorded already.
+// The outcome of a transaction, unless one is recorded already. A number of 64 or more enters nothing.
 pub fn record_tx(b: Book, t: usize, committed: bool, slot: u64) -> Book
-    requires { ⌜ t < 64 ⌝ }
     ensures { λ r. ⌜ r ≡ recordTx t committed slot b ⌝ }
 {
+    if t >= 64 {
+        return b;
+    }
     let g = b.log;
     if sets::is_marked(ledger::logged(g), t) {
         return b;

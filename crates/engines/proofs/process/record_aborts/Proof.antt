@@ -2,7 +2,6 @@ use native.Mathlib.Omega.{arith}
 use Prim.Native.Nat.{_≤_, _<_, _-_, _+_, _^_}
 use mathlib.Core.Path.{_≡_, refl, sym, ap, _∙_}
 use Rattle.marks.specs.Marks.{countOf}
-use Rattle.marks.specs.Sets.{lowest-lt}
 use Rattle.engines.specs.Marked.{overMarks, withMark}
 use Rattle.engines.proofs.Marking.{without, over-less, over-turn, over-none, with-is}
 use Rattle.engines.specs.Pipeline.{recordAbort, recordAborts}
@@ -28,7 +27,7 @@ record-aborts-spec =
     μ-loop
     (λ c. (omega arith, refl))
     (λ c κs. search needs)
-    (λ c κs. lowest-lt _ _ (c .before .before .loop .inv .0) (c .before .loop-test .taken) (c .lowest-mark .ensures))
+    (λ c κs. search needs)
     (λ c κs. search needs)
     (λ c. over-less (without _ _ _ (c .before .before .before .before .loop .inv .0) (c .before .before .before .loop-test .taken) (c .before .before .lowest-mark .ensures) (c .without-mark .ensures)))
     (λ c. (omega arith, over-turn _ (without _ _ _ (c .before .before .before .before .loop .inv .0) (c .before .before .before .loop-test .taken) (c .before .before .lowest-mark .ensures) (c .without-mark .ensures)) (c .before .record-tx .ensures) (c .before .before .before .before .loop .inv .1)))
