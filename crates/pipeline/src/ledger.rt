@@ -3,9 +3,9 @@ ghost use mathlib.Core.Path.{_≡_};
 ghost use lib.Dec.{eqb};
 ghost use Rattle.loops.specs.Pick.{either};
 ghost use Rattle.pipeline.specs.Pending.{loggedOf, outcomeOf, pushed};
-use engines::limits;
 use super::two_pc_pipeline::LogEntry;
 use super::two_pc_pipeline::TxLog;
+use engines::limits;
 use graph::sets;
 
 fn wide(x: u8) -> usize

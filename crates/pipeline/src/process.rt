@@ -5,14 +5,14 @@ ghost use Prim.Native.Nat.{min};
 ghost use lib.Dec.{leb};
 ghost use Rattle.pipeline.specs.Pipeline.{isNew, hearNew, mergeRound, recordAborts, takeUp, isAnswer, answerNack, processOne, partsOf, processAll, shortestLog, progressed, progressAll, stopsAt};
 use super::ledger;
-use engines::limits;
-use engines::node::Node;
 use super::pending;
 use super::prepare;
 use super::two_pc_pipeline::Book;
 use super::two_pc_pipeline::NodeTwoPcState;
 use super::two_pc_pipeline::Piggyback;
 use super::two_pc_pipeline::RoundPacket;
+use engines::limits;
+use engines::node::Node;
 use engines::words::Draw;
 use graph::sets;
 
