@@ -137,7 +137,7 @@ run-kept ws conf p d =
 pub answer-kept : (ws : List ℕ) (numbers used : ℕ) (conf : PipelineConf) (p : Pipeline) (cursor : ℕ) → AllKept (p .states) (roundAnswer ws numbers used conf p cursor .pipe .states)
 unfolding roundAnswer lateAnswer
 answer-kept ws numbers used conf p cursor =
-    pick (eqb (earlyRefusal conf p) 0) _ _ (pick (eqb (lateRefusal numbers used x) 0) (acceptedWith x) (refusedWith (lateRefusal numbers used x) p cursor) (run-kept ws conf p (startDraw cursor)) same) same
+    pick (eqb (earlyRefusal conf p) 0) _ _ (pick (eqb (lateRefusal numbers used x) 0) (acceptedWith used x) (refusedWith (lateRefusal numbers used x) p cursor used) (run-kept ws conf p (startDraw cursor)) same) same
   where
     x : RoundRun
     x = runRound ws conf p (startDraw cursor)
