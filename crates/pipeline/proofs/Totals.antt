@@ -42,7 +42,7 @@ pipeline-sums ws conf p d m h s =
     progress-sums (conf .n) (conf .txs) _ _ _ (flood-of-sums ws conf p (initiatorOf conf p) (preparing ws conf p (initiatorOf conf p) d) m h s)
 
 -- what an accepted opening of a round knows of its length
-early-length : (n bound len slot : ℕ) (stop : Bool) → earlyOf n bound len slot stop ≡ 0 → slot + len ≤ 4294967295
+pub early-length : (n bound len slot : ℕ) (stop : Bool) → earlyOf n bound len slot stop ≡ 0 → slot + len ≤ 4294967295
 unfolding earlyOf
 early-length n bound len slot stop e = go (eqb n 0 || ltb 64 n) (stop || leb bound slot) (ltb 4294967295 (slot + len)) refl e
   where

@@ -8,7 +8,7 @@ use lib.ListN.{length, getD, set, replicate}
 use Rattle.loops.specs.Pick.{either}
 use Rattle.loops.specs.Upto.{upto}
 use Rattle.graph.specs.Links.{isSize, noGraph, rowsOf}
-use Rattle.graph.specs.Paths.{diameterOf}
+use Rattle.graph.specs.Paths.{lengthOf}
 use Rattle.graph.specs.declared.network.NetworkGraph.{NetworkGraph}
 use Rattle.graph.specs.declared.network.Built.{Built}
 use Rattle.packets.specs.Votes.{add64, noOf}
@@ -120,7 +120,7 @@ confOf kind g s transactions interval bound =
       transactions = transactions;
       interval = interval;
       bound = bound;
-      length = roundLength kind s (diameterOf g);
+      length = roundLength kind s (lengthOf g .links);
     }
 
 -- what stands beside a refusal: a room of no positions, with the settings that were asked for
@@ -136,12 +136,12 @@ openOf kind links s transactions term interval bound =
 
 -- ---- propose ("Capture round"; 8, 11, 13)
 
-unfoldable pub proposeRefusal : Room → ℕ → ℕ
-proposeRefusal r v =
-    either (not (isSize (sizeOf r))) 2
-    (either (leb (sizeOf r) v) 8
-    (either (isPipeline (r .conf .kind)) 11
-    (either (eqb (r .terms .term) 0xFFFF_FFFF_FFFF_FFFF) 13 0)))
+unfoldable pub proposeRefusal : ℕ → ℕ → RoomKind → ℕ → ℕ
+proposeRefusal n v kind term =
+    either (not (isSize n)) 2
+    (either (leb n v) 8
+    (either (isPipeline kind) 11
+    (either (eqb term 0xFFFF_FFFF_FFFF_FFFF) 13 0)))
 
 -- The term rises by one, position v holds its proposal and all others nothing. Nothing else changes.
 unfoldable pub proposedIn : RoomConf → Terms → ℕ → Terms
@@ -169,7 +169,7 @@ withTerms r t =
 
 unfoldable pub proposeOf : Room → ℕ → Proposal
 proposeOf r v =
-    let k = proposeRefusal r v in
+    let k = proposeRefusal (sizeOf r) v (r .conf .kind) (r .terms .term) in
     either (eqb k 0)
     (record { refusal = 0; room = withTerms r (proposedIn (r .conf) (r .terms) v) })
     (record { refusal = k; room = r })
@@ -250,11 +250,14 @@ afterCapture r c =
       rounds = r .rounds;
     }
 
-unfoldable pub captureRefusal : Room → ℕ
-captureRefusal r =
-    either (not (isSize (sizeOf r))) 2
-    (either (isPipeline (r .conf .kind)) 11
-    (either (not (r .terms .proposed)) 12 0))
+unfoldable pub captureRefusal : ℕ → RoomKind → Bool → ℕ
+captureRefusal n kind proposed =
+    either (not (isSize n)) 2
+    (either (isPipeline kind) 11
+    (either (not proposed) 12 0))
+
+abbrev pub captureEarly : Room → ℕ
+captureEarly r = captureRefusal (sizeOf r) (r .conf .kind) (r .terms .proposed)
 
 abbrev pub refusedRound : ℕ → Room → ℕ → ℕ → Round
 refusedRound k r cursor used = record { refusal = k; cursor = cursor; used = used; room = r }
@@ -272,12 +275,12 @@ capturedBy r cursor used a =
 
 unfoldable pub captureOf : List ℕ → ℕ → ℕ → Room → ℕ → Round
 captureOf ws numbers used r cursor =
-    let k = captureRefusal r in
+    let k = captureEarly r in
     either (eqb k 0) (capturedBy r cursor used (ceAnswer ws numbers used r cursor)) (refusedRound k r cursor used)
 
 unfoldable pub captureBuffer : List ℕ → List ℕ → ℕ → Room → ℕ → List ℕ
 captureBuffer ws rows used r cursor =
-    either (eqb (captureRefusal r) 0)
+    either (eqb (captureEarly r) 0)
     (bufferOf ws (r .conf .graph .adj) rows used (ceConf (r .conf)) (ceState r) (r .terms .initiator) cursor (r .conf .length))
     rows
 
@@ -326,8 +329,11 @@ withPipe r p =
       rounds = roundsOf p;
     }
 
-unfoldable pub pipelineRefusal : Room → ℕ
-pipelineRefusal r = either (not (isSize (sizeOf r))) 2 (either (isPipeline (r .conf .kind)) 0 11)
+unfoldable pub pipelineRefusal : ℕ → RoomKind → ℕ
+pipelineRefusal n kind = either (not (isSize n)) 2 (either (isPipeline kind) 0 11)
+
+abbrev pub pipelineEarly : Room → ℕ
+pipelineEarly r = pipelineRefusal (sizeOf r) (r .conf .kind)
 
 abbrev pub pipeAnswer : List ℕ → ℕ → ℕ → Room → ℕ → RoundAnswer
 pipeAnswer ws numbers used r cursor = roundAnswer ws numbers used (pipeConf (r .conf)) (pipeOf r) cursor
@@ -337,9 +343,9 @@ ranBy r a = record { refusal = a .refusal; cursor = a .cursor; used = a .used; r
 
 unfoldable pub pipelineOf : List ℕ → ℕ → ℕ → Room → ℕ → Round
 pipelineOf ws numbers used r cursor =
-    let k = pipelineRefusal r in
+    let k = pipelineEarly r in
     either (eqb k 0) (ranBy r (pipeAnswer ws numbers used r cursor)) (refusedRound k r cursor used)
 
 unfoldable pub pipelineBuffer : List ℕ → List ℕ → ℕ → Room → ℕ → List ℕ
 pipelineBuffer ws rows used r cursor =
-    either (eqb (pipelineRefusal r) 0) (roundBuffer ws rows used (pipeConf (r .conf)) (pipeOf r) cursor) rows
+    either (eqb (pipelineEarly r) 0) (roundBuffer ws rows used (pipeConf (r .conf)) (pipeOf r) cursor) rows
