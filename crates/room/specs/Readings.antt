@@ -1,0 +1,196 @@
+-- The readings of a room, by document 01: what each gives, and its refusal where there is no such position (2, 8) or the room is of the other kind (11).
+-- Assumes nothing: these are definitions.
+use Prim.Native.Nat.{ℕ, _%_}
+use mathlib.Core.Bool.{Bool, true, false, not, _&&_}
+use mathlib.Core.List.{List}
+use lib.Dec.{eqb, ltb, leb}
+use lib.ListN.{length, getD}
+use mir.Val.{boolByte}
+use Rattle.loops.specs.Pick.{either}
+use Rattle.marks.specs.Marks.{has}
+use Rattle.graph.specs.Links.{isSize, positionRefusal}
+use Rattle.packets.specs.Packets.{ceText, ceWithin, pipelineText, pipelineWithin}
+use Rattle.packets.specs.Writing.{wroteOf, leftOf}
+use Rattle.packets.specs.Merging.{nobody, outcomeOf}
+use Rattle.packets.specs.declared.Wrote.{Wrote}
+use Rattle.packets.specs.declared.CeTwoPcPacket.{CeTwoPcPacket}
+use Rattle.packets.specs.declared.TwoPcPacket.{TwoPcPacket}
+use Rattle.packets.specs.declared.merging.Held.{Held}
+use Rattle.packets.specs.declared.merging.Held.the-variants.{Empty, Unreadable, Packet}
+use Rattle.packets.specs.declared.merging.Payload.{Payload}
+use Rattle.packets.specs.declared.merging.ProposalOutcome.the-variants as outcome
+use Rattle.engines.specs.Nodes.{noNode}
+use Rattle.engines.specs.declared.node.Node.{Node}
+use Rattle.pipeline.specs.Pending.{noEntry}
+use Rattle.pipeline.specs.Pipeline.{noState, packetOf}
+use Rattle.pipeline.specs.Round.{noPacket}
+use Rattle.pipeline.specs.declared.two_pc_pipeline.LogEntry.{LogEntry}
+use Rattle.pipeline.specs.declared.two_pc_pipeline.RoundPacket.{RoundPacket}
+use Rattle.pipeline.specs.declared.two_pc_pipeline.TxLog.{TxLog}
+use Rattle.pipeline.specs.declared.two_pc_pipeline.NodeTwoPcState.{NodeTwoPcState}
+use Rattle.room.specs.declared.room.RoomKind.{RoomKind}
+use Rattle.room.specs.declared.room.RoomKind.the-variants as kinds
+use Rattle.room.specs.declared.room.Room.{Room}
+use Rattle.room.specs.declared.room.Rounds.{Rounds}
+use Rattle.room.specs.declared.readings.NumberReading.{NumberReading}
+use Rattle.room.specs.declared.readings.NodeReading.{NodeReading}
+use Rattle.room.specs.declared.readings.TextReading.{TextReading}
+use Rattle.room.specs.declared.readings.EntryReading.{EntryReading}
+use Rattle.room.specs.declared.readings.PendingReading.{PendingReading}
+use Rattle.room.specs.declared.readings.RecordReading.{RecordReading}
+use Rattle.room.specs.declared.readings.OutcomeReading.{OutcomeReading}
+use Rattle.room.specs.Rooms.{sizeOf, isPipeline}
+
+abbrev pub captureOnly : RoomKind → ℕ
+captureOnly kinds.Pipeline = 11
+captureOnly kinds.Capture = 0
+
+abbrev pub pipelineOnly : RoomKind → ℕ
+pipelineOnly kinds.Pipeline = 0
+pipelineOnly kinds.Capture = 11
+
+-- a refusal k, or behind it another one
+abbrev pub orElse : ℕ → ℕ → ℕ
+orElse k j = either (eqb k 0) j k
+
+abbrev pub numberIf : ℕ → ℕ → NumberReading
+numberIf k x = either (eqb k 0) (record { refusal = 0; value = x }) (record { refusal = k; value = 0 })
+
+-- ---- of the room
+
+abbrev pub termOf : Room → NumberReading
+termOf r = numberIf (captureOnly (r .conf .kind)) (r .terms .term)
+
+abbrev pub roundOf : Room → NumberReading
+roundOf r = numberIf (pipelineOnly (r .conf .kind)) (r .rounds .round)
+
+abbrev pub stoppedOf : Room → NumberReading
+stoppedOf r = numberIf (pipelineOnly (r .conf .kind)) (boolByte (r .rounds .stop))
+
+-- who floods first: in a capture room who proposed last (12: nobody has), in a pipeline room the positions take turns
+unfoldable pub initiatorNow : Room → NumberReading
+initiatorNow r =
+    either (isSize (sizeOf r))
+    (either (isPipeline (r .conf .kind))
+    (record { refusal = 0; value = r .rounds .round % sizeOf r })
+    (numberIf (either (r .terms .proposed) 0 12) (r .terms .initiator)))
+    (record { refusal = 2; value = 0 })
+
+-- Committed only if everybody holds it.
+unfoldable pub outcomeRead : Room → OutcomeReading
+outcomeRead r =
+    let k = orElse (either (isSize (sizeOf r)) 0 2) (captureOnly (r .conf .kind)) in
+    either (eqb k 0) (record { refusal = 0; outcome = outcomeOf (sizeOf r) (r .terms .held) }) (record { refusal = k; outcome = outcome.Aborted })
+
+-- ---- of a position
+
+unfoldable pub nodeOf : Room → ℕ → NodeReading
+nodeOf r v =
+    let k = positionRefusal (sizeOf r) v in
+    either (eqb k 0) (record { refusal = 0; node = getD (r .nodes) v noNode }) (record { refusal = k; node = noNode })
+
+-- 2 and 8, then 11
+abbrev pub ofPipeline : Room → ℕ → ℕ
+ofPipeline r v = orElse (positionRefusal (sizeOf r) v) (pipelineOnly (r .conf .kind))
+
+abbrev pub stateAt : Room → ℕ → NodeTwoPcState
+stateAt r v = getD (r .rounds .states) v noState
+
+unfoldable pub logLenOf : Room → ℕ → NumberReading
+logLenOf r v = numberIf (ofPipeline r v) (stateAt r v .log .len)
+
+-- entry k of a log of at most 64
+unfoldable pub entryOf : TxLog → ℕ → EntryReading
+entryOf g k =
+    either (ltb k (g .len) && ltb k 64)
+    (record { refusal = 0; there = true; tx = getD (g .entries) k noEntry .tx; committed = getD (g .entries) k noEntry .committed })
+    (record { refusal = 0; there = false; tx = 0; committed = false })
+
+unfoldable pub logEntryOf : Room → ℕ → ℕ → EntryReading
+logEntryOf r v k =
+    let j = ofPipeline r v in
+    either (eqb j 0) (entryOf (stateAt r v .log) k) (record { refusal = j; there = false; tx = 0; committed = false })
+
+unfoldable pub pendingIn : NodeTwoPcState → ℕ → PendingReading
+pendingIn s t =
+    record {
+      refusal = 0;
+      pending = has (s .pending) t;
+      abort = has (s .aborts) t;
+      votes = getD (s .votes) t 0;
+    }
+
+-- a transaction is one of 64; of any other nothing is known
+unfoldable pub pendingOf : Room → ℕ → ℕ → PendingReading
+pendingOf r v t =
+    let j = ofPipeline r v in
+    either (eqb j 0) (pendingIn (stateAt r v) t) (record { refusal = j; pending = false; abort = false; votes = 0 })
+
+-- the record at place k, in the order in which they were recorded, with the slots at which its transaction was generated and recorded
+unfoldable pub recordIn : Rounds → ℕ → RecordReading
+recordIn x k =
+    let e = entryOf (x .book .log) k in
+    record {
+      refusal = 0;
+      there = e .there;
+      tx = e .tx;
+      committed = e .committed;
+      start = getD (x .txs .starts) (e .tx) 0;
+      end = getD (x .book .ends) (e .tx) 0;
+    }
+
+unfoldable pub recordBy : RoomKind → Rounds → ℕ → RecordReading
+recordBy kinds.Pipeline x k = recordIn x k
+recordBy kinds.Capture x k = record { refusal = 11; there = false; tx = 0; committed = false; start = 0; end = 0 }
+
+abbrev pub recordOf : Room → ℕ → RecordReading
+recordOf r k = recordBy (r .conf .kind) (r .rounds) k
+
+-- ---- the text of what a position holds, written to the start of a lent buffer
+
+abbrev pub textIf : Wrote → TextReading
+textIf w = record { refusal = w .refusal; len = w .next }
+
+abbrev pub noText : TextReading
+noText = record { refusal = 0; len = 0 }
+
+-- of a capture packet; of what is no packet there is none
+unfoldable pub ceAnswerBy : CeTwoPcPacket → List ℕ → Held → TextReading
+ceAnswerBy p out Empty = noText
+ceAnswerBy p out Unreadable = noText
+ceAnswerBy p out Packet = textIf (wroteOf (ceWithin p) (ceText p) out 0)
+
+abbrev pub ceAnswer : Payload → List ℕ → TextReading
+ceAnswer l out = ceAnswerBy (l .packet) out (l .held)
+
+unfoldable pub ceLeftBy : CeTwoPcPacket → List ℕ → Held → List ℕ
+ceLeftBy p out Empty = out
+ceLeftBy p out Unreadable = out
+ceLeftBy p out Packet = leftOf (ceWithin p) (ceText p) out 0
+
+abbrev pub ceLeft : Payload → List ℕ → List ℕ
+ceLeft l out = ceLeftBy (l .packet) out (l .held)
+
+-- of a round's packet, by the packet that it stands for
+unfoldable pub pipeAnswerOf : ℕ → Bool → RoundPacket → List ℕ → TextReading
+pipeAnswerOf n holds q out =
+    either holds (textIf (wroteOf (pipelineWithin (packetOf n q)) (pipelineText (packetOf n q)) out 0)) noText
+
+unfoldable pub pipeLeft : ℕ → Bool → RoundPacket → List ℕ → List ℕ
+pipeLeft n holds q out = either holds (leftOf (pipelineWithin (packetOf n q)) (pipelineText (packetOf n q)) out 0) out
+
+unfoldable pub textBy : Room → ℕ → List ℕ → RoomKind → TextReading
+textBy r v out kinds.Pipeline = pipeAnswerOf (sizeOf r) (has (r .rounds .holding) v) (getD (r .rounds .payloads) v noPacket) out
+textBy r v out kinds.Capture = ceAnswer (getD (r .terms .held) v nobody) out
+
+unfoldable pub textOf : Room → ℕ → List ℕ → TextReading
+textOf r v out =
+    let k = positionRefusal (sizeOf r) v in
+    either (eqb k 0) (textBy r v out (r .conf .kind)) (record { refusal = k; len = 0 })
+
+unfoldable pub leftBy : Room → ℕ → List ℕ → RoomKind → List ℕ
+leftBy r v out kinds.Pipeline = pipeLeft (sizeOf r) (has (r .rounds .holding) v) (getD (r .rounds .payloads) v noPacket) out
+leftBy r v out kinds.Capture = ceLeft (getD (r .terms .held) v nobody) out
+
+unfoldable pub textLeft : Room → ℕ → List ℕ → List ℕ
+textLeft r v out = either (eqb (positionRefusal (sizeOf r) v) 0) (leftBy r v out (r .conf .kind)) out

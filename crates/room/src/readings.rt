@@ -1,0 +1,539 @@
+// The readings of a room: what the Rust's state has, each with its refusal where there is no such position, or where the room is of the
+// other kind. A reading changes no room.
+ghost use mathlib.Core.Path.{_≡_};
+ghost use Prim.Native.Nat.{_<_};
+ghost use lib.Dec.{eqb};
+ghost use lib.ListN.{getD};
+ghost use Rattle.graph.specs.Links.{isSize, positionRefusal};
+ghost use Rattle.loops.specs.Pick.{either};
+ghost use Rattle.engines.specs.Metrics.{linkPdr, floodCoverage};
+ghost use Rattle.engines.specs.Nodes.{noNode};
+ghost use Rattle.pipeline.specs.Pipeline.{noState};
+ghost use Rattle.room.specs.Readings.{captureOnly, pipelineOnly, orElse, numberIf, termOf, roundOf, stoppedOf, initiatorNow, outcomeRead, nodeOf, ofPipeline, stateAt, logLenOf, entryOf, logEntryOf, pendingIn, pendingOf, recordIn, recordOf, textIf, ceAnswer, ceLeft, pipeAnswerOf, pipeLeft, textOf, textLeft};
+use super::room::Room;
+use super::room::RoomKind;
+use super::room::Rounds;
+use engines::metrics::MetricsCollector;
+use engines::metrics::Ratio;
+use engines::node::Node;
+use engines::settings::Settings;
+use graph::sets;
+use packets::Wrote;
+use packets::merging;
+use packets::merging::Held;
+use packets::merging::Payload;
+use packets::merging::ProposalOutcome;
+use packets::two_pc_ce;
+use packets::two_pc_pipeline;
+use pipeline::packet;
+use pipeline::two_pc_pipeline::Book;
+use pipeline::two_pc_pipeline::LogEntry;
+use pipeline::two_pc_pipeline::NodeTwoPcState;
+use pipeline::two_pc_pipeline::RoundPacket;
+use pipeline::two_pc_pipeline::TxLog;
+
+// A number, or the refusal beside which it is 0.
+pub struct NumberReading {
+    pub refusal: u64,
+    pub value: u64,
+}
+
+// A position as it is; a fresh one beside a refusal.
+pub struct NodeReading {
+    pub refusal: u64,
+    pub node: Node,
+}
+
+// How long the text is that was written to the start of the buffer; 0 beside a refusal, and where nothing is held.
+pub struct TextReading {
+    pub refusal: u64,
+    pub len: usize,
+}
+
+// An entry of a log, if there is one at that place.
+pub struct EntryReading {
+    pub refusal: u64,
+    pub there: bool,
+    pub tx: u64,
+    pub committed: bool,
+}
+
+// What a position knows of a transaction: whether it is pending, whether an abort is known of it, and who has said yes.
+pub struct PendingReading {
+    pub refusal: u64,
+    pub pending: bool,
+    pub abort: bool,
+    pub votes: u64,
+}
+
+// The record at a place: the transaction, its outcome, and the slots at which it was generated and recorded.
+pub struct RecordReading {
+    pub refusal: u64,
+    pub there: bool,
+    pub tx: u64,
+    pub committed: bool,
+    pub start: u64,
+    pub end: u64,
+}
+
+pub struct OutcomeReading {
+    pub refusal: u64,
+    pub outcome: ProposalOutcome,
+}
+
+// ---- of the room
+
+pub fn kind(r: Room) -> RoomKind
+    ensures { λ k. ⌜ k ≡ r .conf .kind ⌝ }
+{
+    let c = r.conf;
+    c.kind
+}
+
+pub fn num_nodes(r: Room) -> usize
+    ensures { λ k. ⌜ k ≡ r .conf .graph .n ⌝ }
+{
+    r.conf.graph.n
+}
+
+pub fn settings(r: Room) -> Settings
+    ensures { λ k. ⌜ k ≡ r .conf .settings ⌝ }
+{
+    let c = r.conf;
+    c.settings
+}
+
+pub fn slot(r: Room) -> u64
+    ensures { λ k. ⌜ k ≡ r .slot ⌝ }
+{
+    r.slot
+}
+
+pub fn next_row(r: Room) -> u64
+    ensures { λ k. ⌜ k ≡ r .«next_row» ⌝ }
+{
+    r.next_row
+}
+
+pub fn bytes_sent(r: Room) -> u64
+    ensures { λ k. ⌜ k ≡ r .«bytes_sent» ⌝ }
+{
+    r.bytes_sent
+}
+
+pub fn metrics(r: Room) -> MetricsCollector
+    ensures { λ k. ⌜ k ≡ r .metrics ⌝ }
+{
+    r.metrics
+}
+
+pub fn link_pdr(r: Room) -> Ratio
+    ensures { λ k. ⌜ k ≡ linkPdr (r .metrics) ⌝ }
+{
+    let m = r.metrics;
+    m.link_pdr()
+}
+
+pub fn flood_coverage(r: Room) -> Ratio
+    ensures { λ k. ⌜ k ≡ floodCoverage (r .metrics) ⌝ }
+{
+    let m = r.metrics;
+    m.flood_coverage()
+}
+
+// A capture room's alone.
+fn capture_only(kind: RoomKind) -> u64
+    ensures { λ r. ⌜ r ≡ captureOnly kind ⌝ }
+{
+    match kind {
+        RoomKind::Pipeline => 11,
+        RoomKind::Capture => 0,
+    }
+}
+
+// A pipeline room's alone.
+fn pipeline_only(kind: RoomKind) -> u64
+    ensures { λ r. ⌜ r ≡ pipelineOnly kind ⌝ }
+{
+    match kind {
+        RoomKind::Pipeline => 0,
+        RoomKind::Capture => 11,
+    }
+}
+
+// The number, if nothing is refused.
+fn number(refusal: u64, value: u64) -> NumberReading
+    ensures { λ r. ⌜ r ≡ numberIf refusal value ⌝ }
+{
+    if refusal != 0 {
+        return NumberReading { refusal, value: 0 };
+    }
+    NumberReading { refusal: 0, value }
+}
+
+pub fn term(r: Room) -> NumberReading
+    ensures { λ k. ⌜ k ≡ termOf r ⌝ }
+{
+    let c = r.conf;
+    let t = r.terms;
+    let kind = c.kind;
+    number(capture_only(kind), t.term)
+}
+
+pub fn round(r: Room) -> NumberReading
+    ensures { λ k. ⌜ k ≡ roundOf r ⌝ }
+{
+    let c = r.conf;
+    let x = r.rounds;
+    let kind = c.kind;
+    number(pipeline_only(kind), x.round)
+}
+
+// 1 once a pipeline room has stopped.
+pub fn stopped(r: Room) -> NumberReading
+    ensures { λ k. ⌜ k ≡ stoppedOf r ⌝ }
+{
+    let c = r.conf;
+    let x = r.rounds;
+    let kind = c.kind;
+    number(pipeline_only(kind), x.stop as u64)
+}
+
+// Who floods first in a round of n positions: in a capture room who proposed last, in a pipeline room the positions take turns.
+pub fn initiator(r: Room) -> NumberReading
+    ensures { λ k. ⌜ k ≡ initiatorNow r ⌝ }
+{
+    let c = r.conf;
+    let t = r.terms;
+    let x = r.rounds;
+    let n = c.graph.n;
+    if n == 0 {
+        return NumberReading {
+            refusal: 2,
+            value: 0,
+        };
+    }
+    if 64 < n {
+        return NumberReading {
+            refusal: 2,
+            value: 0,
+        };
+    }
+    let kind = c.kind;
+    match kind {
+        RoomKind::Pipeline => NumberReading {
+            refusal: 0,
+            value: x.round % (n as u64),
+        },
+        RoomKind::Capture => proposer(t.proposed, t.initiator),
+    }
+}
+
+fn proposer(proposed: bool, initiator: usize) -> NumberReading
+    ensures { λ k. ⌜ k ≡ numberIf (either proposed 0 12) initiator ⌝ }
+{
+    if proposed {
+        return NumberReading {
+            refusal: 0,
+            value: initiator as u64,
+        };
+    }
+    NumberReading {
+        refusal: 12,
+        value: 0,
+    }
+}
+
+// The first of two refusals, 0 for none.
+fn or_else(k: u64, j: u64) -> u64
+    ensures { λ r. ⌜ r ≡ orElse k j ⌝ }
+{
+    if k != 0 {
+        return k;
+    }
+    j
+}
+
+fn size_refusal(n: usize) -> u64
+    ensures { λ r. ⌜ r ≡ either (isSize n) 0 2 ⌝ }
+{
+    if n == 0 {
+        return 2;
+    }
+    if 64 < n {
+        return 2;
+    }
+    0
+}
+
+// Committed if everybody holds it, Aborted by any deadline otherwise.
+pub fn proposal_outcome(r: Room) -> OutcomeReading
+    ensures { λ k. ⌜ k ≡ outcomeRead r ⌝ }
+{
+    let c = r.conf;
+    let kind = c.kind;
+    let refusal = or_else(size_refusal(c.graph.n), capture_only(kind));
+    if refusal != 0 {
+        return OutcomeReading {
+            refusal,
+            outcome: ProposalOutcome::Aborted,
+        };
+    }
+    let t = r.terms;
+    let held = t.held;
+    OutcomeReading {
+        refusal: 0,
+        outcome: merging::proposal_outcome(held, c.graph.n),
+    }
+}
+
+// ---- of a position
+
+fn position_refusal(n: usize, v: usize) -> u64
+    ensures { λ r. ⌜ r ≡ positionRefusal n v ⌝ }
+{
+    if n == 0 {
+        return 2;
+    }
+    if 64 < n {
+        return 2;
+    }
+    if n <= v {
+        return 8;
+    }
+    0
+}
+
+// State, counts, last progress, goal flag and progress.
+pub fn node(r: Room, v: usize) -> NodeReading
+    ensures { λ k. ⌜ k ≡ nodeOf r v ⌝ }
+{
+    let refusal = position_refusal(r.conf.graph.n, v);
+    if refusal != 0 {
+        return NodeReading {
+            refusal,
+            node: Node::new(),
+        };
+    }
+    let nodes = r.nodes;
+    NodeReading {
+        refusal: 0,
+        node: nodes[v],
+    }
+}
+
+// The refusal of a reading that pipeline rooms alone have.
+fn of_pipeline(r: Room, v: usize) -> u64
+    ensures { λ k. ⌜ k ≡ ofPipeline r v ⌝ }
+{
+    let c = r.conf;
+    let kind = c.kind;
+    or_else(position_refusal(c.graph.n, v), pipeline_only(kind))
+}
+
+// What position v, one of the 64 places, knows.
+fn state_at(r: Room, v: usize) -> NodeTwoPcState
+    requires { ⌜ v < 64 ⌝ }
+    ensures { λ s. ⌜ s ≡ stateAt r v ⌝ }
+{
+    let x = r.rounds;
+    let states = x.states;
+    states[v]
+}
+
+pub fn log_len(r: Room, v: usize) -> NumberReading
+    ensures { λ k. ⌜ k ≡ logLenOf r v ⌝ }
+{
+    let refusal = of_pipeline(r, v);
+    if refusal != 0 {
+        return NumberReading { refusal, value: 0 };
+    }
+    let s = state_at(r, v);
+    NumberReading {
+        refusal: 0,
+        value: s.log.len as u64,
+    }
+}
+
+fn entry(g: TxLog, k: usize) -> EntryReading
+    ensures { λ r. ⌜ r ≡ entryOf g k ⌝ }
+{
+    let none = EntryReading {
+        refusal: 0,
+        there: false,
+        tx: 0,
+        committed: false,
+    };
+    if g.len <= k {
+        return none;
+    }
+    if 64 <= k {
+        return none;
+    }
+    let entries = g.entries;
+    let e = entries[k];
+    EntryReading {
+        refusal: 0,
+        there: true,
+        tx: e.tx as u64,
+        committed: e.committed,
+    }
+}
+
+// Entry k of a position's log.
+pub fn log_entry(r: Room, v: usize, k: usize) -> EntryReading
+    ensures { λ q. ⌜ q ≡ logEntryOf r v k ⌝ }
+{
+    let refusal = of_pipeline(r, v);
+    if refusal != 0 {
+        return EntryReading {
+            refusal,
+            there: false,
+            tx: 0,
+            committed: false,
+        };
+    }
+    let s = state_at(r, v);
+    let log = s.log;
+    entry(log, k)
+}
+
+fn vote_of(votes: [u64; 64], t: usize) -> u64
+    ensures { λ r. ⌜ r ≡ getD votes t 0 ⌝ }
+{
+    if t < 64 {
+        return votes[t];
+    }
+    0
+}
+
+// What position v knows of transaction t.
+pub fn pending(r: Room, v: usize, t: usize) -> PendingReading
+    ensures { λ q. ⌜ q ≡ pendingOf r v t ⌝ }
+{
+    let refusal = of_pipeline(r, v);
+    if refusal != 0 {
+        return PendingReading {
+            refusal,
+            pending: false,
+            abort: false,
+            votes: 0,
+        };
+    }
+    let s = state_at(r, v);
+    let votes = s.votes;
+    PendingReading {
+        refusal: 0,
+        pending: sets::is_marked(s.pending, t),
+        abort: sets::is_marked(s.aborts, t),
+        votes: vote_of(votes, t),
+    }
+}
+
+fn record_in(x: Rounds, k: usize) -> RecordReading
+    ensures { λ q. ⌜ q ≡ recordIn x k ⌝ }
+{
+    let book = x.book;
+    let log = book.log;
+    let ends = book.ends;
+    let txs = x.txs;
+    let starts = txs.starts;
+    let e = entry(log, k);
+    RecordReading {
+        refusal: 0,
+        there: e.there,
+        tx: e.tx,
+        committed: e.committed,
+        start: vote_of(starts, e.tx as usize),
+        end: vote_of(ends, e.tx as usize),
+    }
+}
+
+// The record at place k of a pipeline room's records.
+pub fn record(r: Room, k: usize) -> RecordReading
+    ensures { λ q. ⌜ q ≡ recordOf r k ⌝ }
+{
+    let c = r.conf;
+    let kind = c.kind;
+    let x = r.rounds;
+    match kind {
+        RoomKind::Pipeline => record_in(x, k),
+        RoomKind::Capture => RecordReading {
+            refusal: 11,
+            there: false,
+            tx: 0,
+            committed: false,
+            start: 0,
+            end: 0,
+        },
+    }
+}
+
+// ---- texts
+
+fn wrote(w: Wrote) -> TextReading
+    ensures { λ r. ⌜ r ≡ textIf w ⌝ }
+{
+    TextReading {
+        refusal: w.refusal,
+        len: w.next,
+    }
+}
+
+fn capture_text(l: Payload, out: &mut [u8]) -> TextReading
+    ensures { λ r. ⌜ r ≡ ceAnswer l (now (out .entry)) ⌝ }
+    ensures { λ _. ⌜ now (out .exit) ≡ ceLeft l (now (out .entry)) ⌝ }
+{
+    let held = l.held;
+    let p = l.packet;
+    match held {
+        Held::Empty => TextReading { refusal: 0, len: 0 },
+        Held::Unreadable => TextReading { refusal: 0, len: 0 },
+        Held::Packet => {
+            let w = two_pc_ce::write_ce_packet(out, 0, p);
+            wrote(w)
+        }
+    }
+}
+
+fn pipeline_text(n: usize, holds: bool, q: RoundPacket, out: &mut [u8]) -> TextReading
+    ensures { λ r. ⌜ r ≡ pipeAnswerOf n holds q (now (out .entry)) ⌝ }
+    ensures { λ _. ⌜ now (out .exit) ≡ pipeLeft n holds q (now (out .entry)) ⌝ }
+{
+    if !holds {
+        return TextReading { refusal: 0, len: 0 };
+    }
+    let full = packet::full_packet(n, q);
+    let w = two_pc_pipeline::write_pipeline_packet(out, 0, full);
+    wrote(w)
+}
+
+// The text of what position v holds, written to the start of the buffer; 10 if it does not fit, and then the buffer is as it was. Who holds
+// nothing has a text of no bytes.
+pub fn packet_text(r: Room, v: usize, out: &mut [u8]) -> TextReading
+    ensures { λ q. ⌜ q ≡ textOf r v (now (out .entry)) ⌝ }
+    ensures { λ _. ⌜ now (out .exit) ≡ textLeft r v (now (out .entry)) ⌝ }
+{
+    let c = r.conf;
+    let n = c.graph.n;
+    let refusal = position_refusal(n, v);
+    if refusal != 0 {
+        return TextReading { refusal, len: 0 };
+    }
+    let kind = c.kind;
+    let t = r.terms;
+    let x = r.rounds;
+    match kind {
+        RoomKind::Pipeline => {
+            let payloads = x.payloads;
+            let q = payloads[v];
+            let holds = sets::is_marked(x.holding, v);
+            pipeline_text(n, holds, q, out)
+        }
+        RoomKind::Capture => {
+            let held = t.held;
+            let l = held[v];
+            capture_text(l, out)
+        }
+    }
+}
