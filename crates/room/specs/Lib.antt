@@ -1,3 +1,4 @@
 pub mod Rooms
 pub mod Calls
 pub mod Demand
+pub mod Cases
