@@ -6,4 +6,5 @@ pub mod Calling
 pub mod Flooding
 pub mod Demand
 pub mod Resting
+pub mod Still
 pub mod Cases

@@ -1,37 +1,32 @@
 -- Rounds in which nothing can happen: of a room of 1 that holds a decision, and of no slots. Assumes nothing.
-use Prim.Native.Nat.{ℕ, zero, suc, _+_, _*_, _/_, _%_, _^_, _≤_, _<_}
-use mathlib.Core.Bool.{Bool, true, false, not, _&&_, _||_, false≢true}
-use mathlib.Core.List.{List, [], _∷_, _++_, map, append-nil}
+use Prim.Native.Nat.{ℕ, zero, suc, _+_, _*_, _/_, _≤_}
+use mathlib.Core.Bool.{Bool, true, false, _&&_, _||_, false≢true}
+use mathlib.Core.List.{List, [], _∷_, map, append-nil}
 use mathlib.Core.Path.{_≡_, refl, sym, ap, _∙_}
-use lib.Dec.{eqb, ltb, leb}
+use lib.Dec.{ltb, leb}
 use lib.Ieee.{binary64, ofBits, ofFields, le, eq, lt}
-use lib.ListN.{length, getD, set}
-use borrow.Author.Tests.{le-ltb, le-leb, lt-ltb, ne-eqb}
-use native.Mathlib.Nat.{mod-eq-of-lt, add-zero}
+use lib.ListN.{length, getD}
+use borrow.Author.Tests.{le-ltb, le-leb, ne-eqb}
+use native.Mathlib.Nat.{mod-eq-of-lt}
 use native.Mathlib.Omega.{arith}
-use Rattle.loops.specs.Pick.{either}
-use Rattle.loops.specs.Upto.{upto}
-use Rattle.loops.specs.Runs.{go, tell, runs-stop, told-stop}
+use Rattle.loops.specs.Runs.{go, tell, told-stop}
 use Rattle.marks.specs.Marks.{marks, allOf}
 use Rattle.packets.specs.Votes.{noOf, add64}
 use Rattle.packets.specs.Merging.{Noes, settled, onlyOf, nobody, standingBy, rankOf, allHold, networkGoalOf, outcomeOf, proposalOf, adoptedOf, ensureOf, filledOf, voicedOf, acknowledgedOf, markedOf, settledOf, unanimousOf, decidedOf}
 use Rattle.packets.specs.declared.votes.Voting.{Voting}
 use Rattle.packets.specs.declared.TwoPcPhase.the-variants.{Committed}
 use Rattle.packets.specs.declared.CeTwoPcPacket.{CeTwoPcPacket}
-use Rattle.packets.specs.declared.merging.Held.the-variants.{Empty, Packet}
+use Rattle.packets.specs.declared.merging.Held.the-variants.{Packet}
 use Rattle.packets.specs.declared.merging.Payload.{Payload}
 use Rattle.packets.specs.declared.merging.ProposalOutcome.the-variants as outcome
 use Rattle.packets.proofs.Safety.{either-cases}
 use Rattle.packets.proofs.Growth.{proposal-term}
 use Rattle.engines.specs.Limits.{few}
-use Rattle.engines.specs.Nodes.{inc, noNode}
-use Rattle.engines.specs.Rows.{isDue, rowOf, cells}
-use Rattle.engines.specs.Turns.{started, startedAll}
+use Rattle.engines.specs.Rows.{isDue}
 use Rattle.engines.specs.Capture.{over, begun, goalMet, finished, slotOf, rowsDue, rowsOf, startOf, afterRound, refusalOf, answerOf}
-use Rattle.engines.specs.declared.node.Node.{Node}
 use Rattle.engines.specs.declared.capture.CeRound.{CeRound}
 use Rattle.engines.specs.declared.capture.CeState.{CeState}
-use Rattle.pipeline.proofs.Sums.{inc-is, upto-holds}
+use Rattle.pipeline.proofs.Sums.{inc-is}
 use Rattle.room.specs.declared.room.RoomKind.the-variants as kinds
 use Rattle.room.specs.declared.room.Room.{Room}
 use Rattle.room.specs.declared.room.Proposal.{Proposal}
@@ -39,7 +34,7 @@ use Rattle.room.specs.declared.room.Round.{Round}
 use Rattle.room.specs.Rooms.{sizeOf, noesOf, withTerms, proposeRefusal, proposedIn, proposeOf, ceConf, ceState, during, afterCapture, captureRefusal, capturedBy, captureOf}
 use Rattle.room.specs.Calls.{stagesFrom, captureSlots}
 use Rattle.room.specs.Demand.{heldAt}
-use Rattle.room.specs.Cases.{Alone, Decided, AloneProposed, AloneProposes, AloneEnded, AloneEnds}
+use Rattle.room.specs.Cases.{AloneProposes, AloneEnds}
 
 -- ---- a loop that ends with its first step
 
@@ -102,7 +97,7 @@ rows-few conf c = either-cases (λ (l : List ℕ). length l ≤ 5) (isDue (c .«
 -- ---- what a round answers, once its run and rows are known
 
 module _ (ws : List ℕ) (numbers used cursor : ℕ) (r : Room) where
-  abbrev start : CeState
+  abbrev pub start : CeState
   start = startOf (ceConf (r .conf)) (r .terms .initiator) cursor (ceState r)
 
   pub round-is : (c : CeState) (rows : List ℕ) → captureRefusal (sizeOf r) (r .conf .kind) (r .terms .proposed) ≡ 0
@@ -115,7 +110,7 @@ module _ (ws : List ℕ) (numbers used cursor : ℕ) (r : Room) where
   round-is c rows early fits run told words room =
       rw (early, le-ltb 4294967295 (r .slot + r .conf .length) fits, run, told, words, le-leb (used * 5 + length rows) numbers room)
 
-  early-none : r .conf .kind ≡ kinds.Capture → (ltb 0 (sizeOf r) && leb (sizeOf r) 64) ≡ true → r .terms .proposed ≡ true
+  pub early-none : r .conf .kind ≡ kinds.Capture → (ltb 0 (sizeOf r) && leb (sizeOf r) 64) ≡ true → r .terms .proposed ≡ true
       → captureRefusal (sizeOf r) (r .conf .kind) (r .terms .proposed) ≡ 0
   unfolding captureRefusal
   early-none k s p = rw (k, s, p)
@@ -175,9 +170,9 @@ unfolding proposeOf proposeRefusal proposedIn
 alone-proposes r a p l =
     let nay = noesOf (r .conf) in
     let e : proposeOf r 0 ≡ record { refusal = 0; room = withTerms r (proposedIn (r .conf) (r .terms) 0) } =
-        rw (a .size, a .kind, ne-eqb (r .terms .term) 0xFFFF_FFFF_FFFF_FFFF (λ e. omega arith)) in
+    rw (a .size, a .kind, ne-eqb (r .terms .term) 0xFFFF_FFFF_FFFF_FFFF (λ e. omega arith)) in
     let f : proposalOf nay (sizeOf r) 0 (r .terms .term) .phase ≡ Committed =
-        ap (λ (n : ℕ). proposalOf nay n 0 (r .terms .term) .phase) (a .size) ∙ proposal-alone nay (r .terms .term) (none-no _ _ 0 p) in
+    ap (λ (n : ℕ). proposalOf nay n 0 (r .terms .term) .phase) (a .size) ∙ proposal-alone nay (r .terms .term) (none-no _ _ 0 p) in
     let h : heldAt (proposeOf r 0 .room) 0 .held ≡ Packet = ap (λ (q : Proposal). heldAt (q .room) 0 .held) e in
     let g : heldAt (proposeOf r 0 .room) 0 .packet .phase ≡ Committed = ap (λ (q : Proposal). heldAt (q .room) 0 .packet .phase) e ∙ f in
     record {

@@ -1,6 +1,6 @@
--- The marked cases of document 01, "Cases", as one table over the rules that the room's contracts cite, and those of the layers below.
+-- The marked cases of document 01, "Cases", as one table over the rules that the contracts of the room and of the layers below cite.
 -- Assumes nothing: these are statements, proved in one go in proofs/Cases.antt.
-use Prim.Native.Nat.{ℕ, _+_, _*_, _^_, _≤_, _<_}
+use Prim.Native.Nat.{ℕ, _+_, _*_, _≤_, _<_}
 use mathlib.Core.Bool.{Bool, true, false, _&&_}
 use mathlib.Core.List.{List, [], _∷_, map}
 use mathlib.Core.Path.{_≡_}
@@ -88,6 +88,8 @@ pub record LineOfTwo : Type 0 where
   -- and by the bytes sent after each of the three slots
   pub sent : map (λ r. r .«bytes_sent») (captureSlots [] 0 (proposal .room)) ≡ 85 ∷ 172 ∷ 172 ∷ []
   pub bytes : captured .room .«bytes_sent» ≡ 172
+  -- position 0 holds another text at the end: both marks are true in it
+  pub first-after : payloadLen (heldAt (captured .room) 0) ≡ 86
   pub goal : networkGoalOf 2 (captured .room .terms .held) ≡ true
   pub raised : captured .room .terms .raised ≡ true
   pub ends : captured .room .slot ≡ 3
