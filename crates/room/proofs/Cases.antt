@@ -1,7 +1,6 @@
 -- The table of specs/Cases.antt. What speaks of one room is computed over the rules in one go, the rest is by the laws of Resting and Still. Assumes nothing.
 use mathlib.Core.Bool.{true, false}
 use mathlib.Core.Path.{_≡_, refl}
-use lib.ListN.{length}
 use borrow.Author.Tests.{le-ltb, ne-eqb}
 use native.Mathlib.Omega.{arith}
 use lib.Ieee.{binary64, ofBits, ofFields, eq, lt, le, div, ofInt, round, units, odd, span, climb, size}
@@ -14,9 +13,12 @@ use Rattle.texts.specs.Decimal.{decimal, decimalF}
 use Rattle.texts.specs.Put.{written}
 use Rattle.texts.specs.Readers.{listText, itemsText}
 use Rattle.graph.specs.Links.{graphBy, builtOf, nextRule, meshRule, aheadOf, linkOf, topologyOf, inside, rowsOf}
+use Rattle.graph.specs.Paths.{diameterOf, lengthOf}
 use Rattle.packets.specs.Packets.{ceText, bitmapText, dataText, limits, pipelineText}
+use Rattle.packets.specs.Desk.{payloadOf}
 use Rattle.packets.specs.Votes.{noOf, hashOf, shareOf}
 use Rattle.packets.specs.Merging.{filledOf, markedOf, onlyOf, joinOf, joinNews, unanimousOf, rankOf, ensureOf, decidedOf, acknowledgedOf, voicedOf, settledOf, adoptedOf, raisedOf, ownOf, sameTermOf, heardOf, mergedBy, mergeOf, proposalData, proposalOf, standingBy, goalOf, canSleepOf, allHold, networkGoalOf, outcomeOf}
+use Rattle.packets.proofs.MergeCases.{all-no}
 use Rattle.engines.specs.Settings.{lossAccepted, isLossy}
 use Rattle.engines.specs.Marked.{overMarks, withMark}
 use Rattle.engines.specs.Words.{nextOf, unitOf, coinOf, lostOf, pickOf, swapStep, shuffled}
@@ -26,7 +28,6 @@ use Rattle.engines.specs.Plan.{timedOut, tossed1, coinsOf, noteAt, sendersOf, e
 use Rattle.engines.specs.Turns.{started, startedAll, nextState, turned, turnOf, turnedAll, countedSlot}
 use Rattle.engines.specs.Ce.{payloadLen, sentAt, sentOf, hearingOf, toldAt, toldAll}
 use Rattle.engines.specs.Capture.{begun, goalMet, acted, finished, slotOf, rowsDue, startOf, afterRound, refusalOf, answerOf}
-use Rattle.graph.specs.Paths.{diameterOf, lengthOf}
 use Rattle.pipeline.specs.Pending.{nackOf, joinMarks, commonMarks, withoutMark, loggedAt, loggedOf, outcomeAt, outcomeOf as loggedOutcome, pushed, finalizeTx, unanimousOf as allVoted, openTx, votesAt, mergeVotes, mergeAbort, gapAt, gapOf, voteOf, isJudged, judgeAt, judged, fastOf, abortAll, ownVote}
 use Rattle.pipeline.specs.Pipeline.{dataOf, packetOf, samePacket, recordTx, isFresh, beginTx, recordDue, recordJudged, abortOf, knownVotes, roundPacket, prepareRound, isNew, hearNew, mergeRound, recordAborts, takeUp, isAnswer, answerNack, processOne, partsOf, processAt, processAll, shorterAt, shortestLog, progressAt, progressAll, stopsAt}
 use Rattle.pipeline.specs.Flood.{floodLength, framed, hearAt, hearersOf, sendAt, floodPlan, afterFlood, afterListen, nextNode, turnAt, turnedAll as floodTurned, nobodyFloods, sentAfter, dueAfter, floodSlot, resetAt, resetAll, floodStart, floodRound}
@@ -34,8 +35,6 @@ use Rattle.pipeline.specs.Round.{newPipeline, runRound, roundAnswer, deliverAll
 use Rattle.room.specs.Rooms.{ranBy, pipelineOf, pipelineRefusal, openRefusal, roundLength, newRoom, openOf, proposeRefusal, proposedIn, proposeOf, raised, raisedAll, afterCapture, captureRefusal, capturedBy, captureOf}
 use Rattle.room.specs.Calls.{stagesFrom, captureSlots, pipelineSlots}
 use Rattle.room.specs.Cases.{MinusZero, One, MarkedCases}
-use Rattle.packets.specs.Desk.{payloadOf}
-use Rattle.packets.proofs.MergeCases.{all-no}
 use Rattle.room.proofs.Resting.{alone-proposes, alone-ends}
 use Rattle.room.proofs.Still.{capture-none, pipeline-none, no-slots}
 
@@ -97,7 +96,7 @@ marked-cases =
       alone-proposes = alone-proposes;
       alone-ends = alone-ends;
       capture-none = capture-none;
-      pipeline-none = record { ticks = no-slots; unmoved = pipeline-none; opens = refl; length = refl; accepted = refl };
+      pipeline-none = record { ticks = no-slots; unmoved = pipeline-none; opens = refl; full = refl; accepted = refl };
       empty-heard = record { packet = λ nay n v l p. refl; text = λ nay n v l s. refl };
       minus-zero = minus-zero;
       one = one;

@@ -1,4 +1,4 @@
--- Rounds in which nothing can happen: of a room of 1 that holds a decision, and of no slots. Assumes nothing.
+-- A room of 1: it decides on proposing, and its rounds reach the goal in their first slot. Assumes nothing.
 use Prim.Native.Nat.{ℕ, zero, suc, _+_, _*_, _/_, _≤_}
 use mathlib.Core.Bool.{Bool, true, false, _&&_, _||_, false≢true}
 use mathlib.Core.List.{List, [], _∷_, map, append-nil}
@@ -21,7 +21,6 @@ use Rattle.packets.specs.declared.merging.Payload.{Payload}
 use Rattle.packets.specs.declared.merging.ProposalOutcome.the-variants as outcome
 use Rattle.packets.proofs.Safety.{either-cases}
 use Rattle.packets.proofs.Growth.{proposal-term}
-use Rattle.engines.specs.Limits.{few}
 use Rattle.engines.specs.Rows.{isDue}
 use Rattle.engines.specs.Capture.{over, begun, goalMet, finished, slotOf, rowsDue, rowsOf, startOf, afterRound, refusalOf, answerOf}
 use Rattle.engines.specs.declared.capture.CeRound.{CeRound}
@@ -124,7 +123,7 @@ unfolding startOf begun goalMet afterCapture captureSlots
 alone-ends ws numbers used cursor r a d h fits room =
     let s = start ws numbers used cursor r in
     let goal : networkGoalOf (sizeOf r) (r .terms .held) ≡ true = goal-alone (sizeOf r) (r .terms .held) (a .size) (d .held) (d .phase) in
-    let few = rows-few (ceConf (r .conf)) (begun (ceConf (r .conf)) s) in
+    let most = rows-few (ceConf (r .conf)) (begun (ceConf (r .conf)) s) in
     let e = round-is ws numbers used cursor r (end ws (r .conf .graph .adj) (ceConf (r .conf)) s refl goal) (rowsDue (ceConf (r .conf)) (begun (ceConf (r .conf)) s))
     (early-none ws numbers used cursor r (a .kind) (rw (a .size)) (d .proposed)) fits
     (round-goal ws (r .conf .graph .adj) (ceConf (r .conf)) s refl goal (r .conf .length) h)
@@ -149,7 +148,7 @@ alone-ends ws numbers used cursor r a d h fits room =
 -- ---- proposing
 
 -- no vote is no where p is 0
-pub none-no : (s : Voting) (t v : ℕ) → s .«abort_probability» ≡ ofBits binary64 0 → noOf s t v ≡ false
+none-no : (s : Voting) (t v : ℕ) → s .«abort_probability» ≡ ofBits binary64 0 → noOf s t v ≡ false
 unfolding noOf le lt eq ofBits ofFields
 none-no s t v e = rw e
 

@@ -134,13 +134,13 @@ pub record Alone (r : Room) : Type 0 where
   pub kind : r .conf .kind ≡ kinds.Capture
   pub size : sizeOf r ≡ 1
 
--- its position proposed, and what it holds is Committed
+-- a proposal was made, and what the position holds is Committed
 pub record Decided (r : Room) : Type 0 where
   pub proposed : r .terms .proposed ≡ true
   pub held : heldAt r 0 .held ≡ Packet
   pub phase : heldAt r 0 .packet .phase ≡ Committed
 
--- The proposal of room r is accepted, and decides. Nothing but what concerns the term changes.
+-- The proposal in room r is accepted, and decides the next term; the slot stays.
 pub record AloneProposed (r : Room) (q : Proposal) : Type 0 where
   pub accepted : q .refusal ≡ 0
   pub fixed : q .room .conf ≡ r .conf
@@ -166,7 +166,7 @@ pub record AloneEnded (ws : List ℕ) (cursor : ℕ) (r : Room) (q : Round) : Ty
   pub held : q .room .terms .held ≡ r .terms .held
   pub decided : Decided (q .room)
 
--- Words, cursor and full length may be any; refusal 15 is excluded, and refusal 17 for one row.
+-- Words, cursor and full length may be any; the premises leave out refusal 15, and refusal 17 for one row.
 abbrev pub AloneEnds : Type 0
 AloneEnds =
     (ws : List ℕ) (numbers used cursor : ℕ) (r : Room) → Alone r → Decided r
@@ -195,13 +195,13 @@ CaptureOfNoSlots =
     → r .conf .length ≡ 0 → r .slot ≤ 4294967295 → used * 5 ≤ numbers
     → NoTick ws cursor used r (captureOf ws numbers used r cursor)
 
--- every pipeline round of no slots, accepted or refused: transactions and draws of it there may be
+-- Every pipeline round of no slots, accepted or refused. (It is prepared and processed all the same, so it may draw words.)
 pub record PipelineOfNoSlots : Type 0 where
   pub ticks : (ws : List ℕ) (cursor : ℕ) (r : Room) → r .conf .length ≡ 0 → pipelineSlots ws cursor r ≡ []
   pub unmoved : (ws : List ℕ) (numbers used cursor : ℕ) (r : Room) → r .conf .length ≡ 0 → Unmoved r (pipelineOf ws numbers used r cursor .room)
   -- one that is accepted: two positions, no transactions
   pub opens : openOf kinds.Pipeline pair (plain true 0) 0 0 4294967295 4294967295 .refusal ≡ 0
-  pub length : openOf kinds.Pipeline pair (plain true 0) 0 0 4294967295 4294967295 .room .conf .length ≡ 0
+  pub full : openOf kinds.Pipeline pair (plain true 0) 0 0 4294967295 4294967295 .room .conf .length ≡ 0
   pub accepted : pipelineOf [] 0 0 (openOf kinds.Pipeline pair (plain true 0) 0 0 4294967295 4294967295 .room) 0 .refusal ≡ 0
 
 -- ---- merges
