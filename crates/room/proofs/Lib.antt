@@ -5,3 +5,6 @@ pub mod Moments
 pub mod Calling
 pub mod Flooding
 pub mod Demand
+pub mod Resting
+pub mod Still
+pub mod Cases

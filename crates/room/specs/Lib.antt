@@ -2,3 +2,4 @@ pub mod Rooms
 pub mod Readings
 pub mod Calls
 pub mod Demand
+pub mod Cases

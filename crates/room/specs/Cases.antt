@@ -1,0 +1,255 @@
+-- The marked cases of document 01, "Cases", as one table over the rules that the contracts of the room and of the layers below cite.
+-- Assumes nothing: these are statements, proved in one go in proofs/Cases.antt.
+use Prim.Native.Nat.{ℕ, _+_, _*_, _≤_, _<_}
+use mathlib.Core.Bool.{Bool, true, false, _&&_}
+use mathlib.Core.List.{List, [], _∷_, map}
+use mathlib.Core.Path.{_≡_}
+use lib.Dec.{eqb}
+use lib.ListN.{length, getD}
+use lib.Ieee.{Float, binary64, ofBits, lt}
+use Rattle.graph.specs.Links.{isSize, rowsOf, topologyOf}
+use Rattle.packets.specs.Votes.{noOf}
+use Rattle.packets.specs.Desk.{payloadOf}
+use Rattle.packets.specs.Merging.{Noes, mergeOf, redundant, networkGoalOf, outcomeOf}
+use Rattle.packets.specs.declared.TwoPcPhase.the-variants.{Committed}
+use Rattle.packets.specs.declared.CeTwoPcPacket.{CeTwoPcPacket}
+use Rattle.packets.specs.declared.merging.Held.the-variants.{Empty, Packet}
+use Rattle.packets.specs.declared.merging.Payload.{Payload}
+use Rattle.packets.specs.declared.merging.ProposalOutcome.the-variants as outcome
+use Rattle.engines.specs.Nodes.{noNode}
+use Rattle.engines.specs.Ce.{payloadLen}
+use Rattle.engines.specs.declared.node.Node.{Node}
+use Rattle.engines.specs.declared.settings.Settings.{Settings}
+use Rattle.room.specs.declared.room.RoomKind.{RoomKind}
+use Rattle.room.specs.declared.room.RoomKind.the-variants as kinds
+use Rattle.room.specs.declared.room.Room.{Room}
+use Rattle.room.specs.declared.room.Opening.{Opening}
+use Rattle.room.specs.declared.room.Proposal.{Proposal}
+use Rattle.room.specs.declared.room.Round.{Round}
+use Rattle.room.specs.Rooms.{isPipeline, sizeOf, openOf, proposeOf, captureOf, pipelineOf}
+use Rattle.room.specs.Calls.{captureSlots, pipelineSlots}
+use Rattle.room.specs.Demand.{heldAt}
+
+-- ---- what a room shows
+
+abbrev pub node : Room → ℕ → Node
+node r v = getD (r .nodes) v noNode
+
+-- the listen, flood and sleep counts of positions 0 and 1 together
+abbrev pub countsOfTwo : Room → List ℕ
+countsOfTwo r =
+    (node r 0 .«slots_listen» + node r 1 .«slots_listen»)
+    ∷ (node r 0 .«slots_flood» + node r 1 .«slots_flood»)
+    ∷ (node r 0 .«slots_sleep» + node r 1 .«slots_sleep»)
+    ∷ []
+
+-- v and w have the same three counts
+pub record SameCounts (v w : Node) : Type 0 where
+  pub listen : v .«slots_listen» ≡ w .«slots_listen»
+  pub flood : v .«slots_flood» ≡ w .«slots_flood»
+  pub sleep : v .«slots_sleep» ≡ w .«slots_sleep»
+
+-- ---- two positions that hear each other
+
+abbrev pub pair : List ℕ
+pair = 2 ∷ 1 ∷ []
+
+-- loss, abort probability and seed 0, timeout 100, one repeat
+abbrev pub plain : Bool → ℕ → Settings
+plain given slots =
+    record {
+      «loss_rate» = ofBits binary64 0;
+      «abort_probability» = ofBits binary64 0;
+      seed = 0;
+      «listen_timeout» = 100;
+      «flood_repeats» = 1;
+      «round_slots» = slots;
+      «slots_given» = given;
+    }
+
+-- a capture room of them with rounds of 20 slots, the proposal of position 0, and one round: no words, a buffer of one row
+abbrev pub captureRoom : Opening
+captureRoom = openOf kinds.Capture pair (plain true 20) 1 0 4294967295 4294967295
+
+abbrev pub proposal : Proposal
+proposal = proposeOf (captureRoom .room) 0
+
+abbrev pub captured : Round
+captured = captureOf [] 5 0 (proposal .room) 0
+
+pub record LineOfTwo : Type 0 where
+  pub line : rowsOf pair ≡ topologyOf 2 2 0
+  pub opens : captureRoom .refusal ≡ 0
+  pub proposes : proposal .refusal ≡ 0
+  pub runs : captured .refusal ≡ 0
+  -- the two packets sent, by the texts: position 0's in the first slot, position 1's, which it holds from then on, in the second
+  pub first : payloadLen (heldAt (proposal .room) 0) ≡ 85
+  pub second : map (λ r. payloadLen (heldAt r 1)) (captureSlots [] 0 (proposal .room)) ≡ 87 ∷ 87 ∷ 87 ∷ []
+  -- and by the bytes sent after each of the three slots
+  pub sent : map (λ r. r .«bytes_sent») (captureSlots [] 0 (proposal .room)) ≡ 85 ∷ 172 ∷ 172 ∷ []
+  pub bytes : captured .room .«bytes_sent» ≡ 172
+  -- position 0 holds another text at the end: both marks are true in it
+  pub first-after : payloadLen (heldAt (captured .room) 0) ≡ 86
+  pub goal : networkGoalOf 2 (captured .room .terms .held) ≡ true
+  pub raised : captured .room .terms .raised ≡ true
+  pub ends : captured .room .slot ≡ 3
+  pub counts : countsOfTwo (captured .room) ≡ 3 ∷ 3 ∷ 0 ∷ []
+  pub outcome : outcomeOf 2 (captured .room .terms .held) ≡ outcome.Committed
+
+-- a pipeline room of them with no transactions, whose round slots are not given, and one round: no words, a buffer of one row
+abbrev pub pipelineRoom : Opening
+pipelineRoom = openOf kinds.Pipeline pair (plain false 0) 0 0 4294967295 4294967295
+
+abbrev pub flooded : Round
+flooded = pipelineOf [] 5 0 (pipelineRoom .room) 0
+
+pub record MeshOfTwo : Type 0 where
+  pub mesh : rowsOf pair ≡ topologyOf 1 2 0
+  pub opens : pipelineRoom .refusal ≡ 0
+  pub runs : flooded .refusal ≡ 0
+  -- two slots of the three that it may last
+  pub full : flooded .room .conf .length ≡ 3
+  pub slots : map (λ r. r .slot) (pipelineSlots [] 0 (pipelineRoom .room)) ≡ 1 ∷ 2 ∷ []
+  pub ends : flooded .room .slot ≡ 2
+  pub counts : countsOfTwo (flooded .room) ≡ 1 ∷ 2 ∷ 1 ∷ []
+  pub covered : flooded .room .metrics .«flood_nodes_covered» ≡ 2
+  pub stopped : flooded .room .rounds .stop ≡ true
+  pub bytes : flooded .room .«bytes_sent» ≡ 352
+
+-- ---- votes: 0.0005 by its pattern
+
+pub record Shares : Type 0 where
+  pub no : noOf (record { n = 2; «abort_probability» = ofBits binary64 0x3F40_624D_D2F1_A9FC; seed = 0x61C8_8646_80B5_83EC }) 1 0 ≡ true
+  pub yes : noOf (record { n = 2; «abort_probability» = ofBits binary64 0x3F40_624D_D2F1_A9FC; seed = 0x61C8_8646_80B5_83EC }) 1 1 ≡ false
+
+-- every position in every term, whatever number the room has of them; a p above 0 is no NaN
+abbrev pub AllNo : Type 0
+AllNo =
+    (n term v : ℕ) (p : Float) → lt (ofBits binary64 0) p ≡ true
+    → noOf (record { n = n; «abort_probability» = p; seed = 0x61C8_8646_80B5_83EB }) term v ≡ true
+
+-- ---- a room of 1: its links, settings, counts and slot may be any
+
+pub record Alone (r : Room) : Type 0 where
+  pub kind : r .conf .kind ≡ kinds.Capture
+  pub size : sizeOf r ≡ 1
+
+-- a proposal was made, and what the position holds is Committed
+pub record Decided (r : Room) : Type 0 where
+  pub proposed : r .terms .proposed ≡ true
+  pub held : heldAt r 0 .held ≡ Packet
+  pub phase : heldAt r 0 .packet .phase ≡ Committed
+
+-- The proposal in room r is accepted, and decides the next term; the slot stays.
+pub record AloneProposed (r : Room) (q : Proposal) : Type 0 where
+  pub accepted : q .refusal ≡ 0
+  pub fixed : q .room .conf ≡ r .conf
+  pub slot : q .room .slot ≡ r .slot
+  pub term : heldAt (q .room) 0 .packet .term ≡ r .terms .term + 1
+  pub decided : Decided (q .room)
+  pub outcome : outcomeOf 1 (q .room .terms .held) ≡ outcome.Committed
+
+abbrev pub AloneProposes : Type 0
+AloneProposes =
+    (r : Room) → Alone r → r .conf .settings .«abort_probability» ≡ ofBits binary64 0 → r .terms .term < 0xFFFF_FFFF_FFFF_FFFF
+    → AloneProposed r (proposeOf r 0)
+
+-- The round of room r is accepted, draws no word, has one slot, in which nothing is sent, and reaches the goal.
+pub record AloneEnded (ws : List ℕ) (cursor : ℕ) (r : Room) (q : Round) : Type 0 where
+  pub accepted : q .refusal ≡ 0
+  pub drawn : q .cursor ≡ cursor
+  pub fixed : q .room .conf ≡ r .conf
+  pub ends : q .room .slot ≡ r .slot + 1
+  pub ticks : length (captureSlots ws cursor r) ≡ 1
+  pub bytes : q .room .«bytes_sent» ≡ r .«bytes_sent»
+  pub raised : q .room .terms .raised ≡ true
+  pub held : q .room .terms .held ≡ r .terms .held
+  pub decided : Decided (q .room)
+
+-- Words, cursor and full length may be any; the premises leave out refusal 15, and refusal 17 for one row.
+abbrev pub AloneEnds : Type 0
+AloneEnds =
+    (ws : List ℕ) (numbers used cursor : ℕ) (r : Room) → Alone r → Decided r
+    → 1 ≤ r .conf .length → r .slot + r .conf .length ≤ 4294967295 → used * 5 + 5 ≤ numbers
+    → AloneEnded ws cursor r (captureOf ws numbers used r cursor)
+
+-- ---- rounds of no slots
+
+-- room q has ended where room r started: slot, bytes sent and each position's counts are as they were
+pub record Unmoved (r q : Room) : Type 0 where
+  pub slot : q .slot ≡ r .slot
+  pub bytes : q .«bytes_sent» ≡ r .«bytes_sent»
+  pub counts : (v : ℕ) → SameCounts (node q v) (node r v)
+
+pub record NoTick (ws : List ℕ) (cursor used : ℕ) (r : Room) (q : Round) : Type 0 where
+  pub accepted : q .refusal ≡ 0
+  pub drawn : q .cursor ≡ cursor
+  pub rows : q .used ≡ used
+  pub ticks : captureSlots ws cursor r ≡ []
+  pub unmoved : Unmoved r (q .room)
+
+-- every capture round of no slots that refusals 2, 11, 12, 15 and 17 leave
+abbrev pub CaptureOfNoSlots : Type 0
+CaptureOfNoSlots =
+    (ws : List ℕ) (numbers used cursor : ℕ) (r : Room) → isSize (sizeOf r) ≡ true → r .conf .kind ≡ kinds.Capture → r .terms .proposed ≡ true
+    → r .conf .length ≡ 0 → r .slot ≤ 4294967295 → used * 5 ≤ numbers
+    → NoTick ws cursor used r (captureOf ws numbers used r cursor)
+
+-- Every pipeline round of no slots, accepted or refused. (It is prepared and processed all the same, so it may draw words.)
+pub record PipelineOfNoSlots : Type 0 where
+  pub ticks : (ws : List ℕ) (cursor : ℕ) (r : Room) → r .conf .length ≡ 0 → pipelineSlots ws cursor r ≡ []
+  pub unmoved : (ws : List ℕ) (numbers used cursor : ℕ) (r : Room) → r .conf .length ≡ 0 → Unmoved r (pipelineOf ws numbers used r cursor .room)
+  -- one that is accepted: two positions, no transactions
+  pub opens : openOf kinds.Pipeline pair (plain true 0) 0 0 4294967295 4294967295 .refusal ≡ 0
+  pub full : openOf kinds.Pipeline pair (plain true 0) 0 0 4294967295 4294967295 .room .conf .length ≡ 0
+  pub accepted : pipelineOf [] 0 0 (openOf kinds.Pipeline pair (plain true 0) 0 0 4294967295 4294967295 .room) 0 .refusal ≡ 0
+
+-- ---- merges
+
+-- Redundant, and what is held stays: whatever packet stands beside, and for the text of no bytes in any buffer
+pub record EmptyHeard : Type 0 where
+  pub packet : (nay : Noes) (n v : ℕ) (l : Payload) (p : CeTwoPcPacket) → mergeOf nay n v l (record { held = Empty; packet = p }) ≡ redundant l
+  pub text : (nay : Noes) (n v : ℕ) (l : Payload) (s : List ℕ) → mergeOf nay n v l (payloadOf s 0) ≡ redundant l
+
+-- ---- losses: -0.0 and 1.0 by their patterns
+
+-- in any room that nothing else refuses
+abbrev pub MinusZero : Type 0
+MinusZero =
+    (kind : RoomKind) (links : List ℕ) (s : Settings) (transactions term interval bound : ℕ) → rowsOf links .refusal ≡ 0
+    → s .«loss_rate» ≡ ofBits binary64 0x8000_0000_0000_0000
+    → (isPipeline kind && eqb (s .«flood_repeats») 0) ≡ false → 1 ≤ interval → transactions ≤ 64
+    → openOf kind links s transactions term interval bound .refusal ≡ 0
+
+-- in any room that refusals 2 and 3 leave
+abbrev pub One : Type 0
+One =
+    (kind : RoomKind) (links : List ℕ) (s : Settings) (transactions term interval bound : ℕ) → rowsOf links .refusal ≡ 0
+    → s .«loss_rate» ≡ ofBits binary64 0x3FF0_0000_0000_0000
+    → openOf kind links s transactions term interval bound .refusal ≡ 4
+
+-- ---- the table
+
+pub record MarkedCases : Type 0 where
+  -- Capture, line of 2, p = 0, proposer 0, timeout 100: the packets sent have 85 and 87 bytes; goal, end slot 3, listen 3, flood 3, sleep 0, Committed.
+  pub capture-line : LineOfTwo
+  -- Mesh of 2, T = 0, repeats 1: two slots, listen 1, flood 2, sleep 1, covered 2, stopped.
+  pub pipeline-mesh : MeshOfTwo
+  -- Seed 61C8864680B583EC, term 1, p = 0.0005: position 0 votes no, its share is 0.0004; position 1 votes yes, its share is 0.0005.
+  pub shares : Shares
+  -- The seed one lower, any p above 0: all vote no.
+  pub all-no : AllNo
+  -- Room of 1, p = 0: Committed on proposing ..
+  pub alone-proposes : AloneProposes
+  -- .. and each round of 1 slot or more in that term, the first and those after it, ends at start + 1.
+  pub alone-ends : AloneEnds
+  -- Round slots 0: no tick, end is start; in capture rooms ..
+  pub capture-none : CaptureOfNoSlots
+  -- .. and in pipeline rooms.
+  pub pipeline-none : PipelineOfNoSlots
+  -- Empty received: Redundant.
+  pub empty-heard : EmptyHeard
+  -- Loss -0.0: accepted.
+  pub minus-zero : MinusZero
+  -- Loss 1.0: refused, with 4.
+  pub one : One
