@@ -14,3 +14,4 @@ pub mod Flood
 pub mod Pending
 pub mod Pipeline
 pub mod Round
+pub mod Numbers

@@ -7,6 +7,7 @@ mod ledger;
 pub mod limits;
 pub mod metrics;
 pub mod node;
+pub mod numbers;
 mod packet;
 mod pending;
 pub mod pipeline;
