@@ -56,8 +56,11 @@ nodeNumbers v =
 unfoldable pub nodesAt : List ℕ → ℕ → List Node
 nodesAt xs at = filled noNode 64 64 (λ i. nodeAt xs at (i * 8))
 
+abbrev pub putNode : ℕ → List Node → ℕ → List ℕ → List ℕ
+putNode at nodes i xs = sets xs (at + i * 8) (nodeNumbers (getD nodes i noNode))
+
 unfoldable pub putNodes : ℕ → List Node → List ℕ → List ℕ
-putNodes at nodes xs = upto 64 (λ i l. sets l (at + i * 8) (nodeNumbers (getD nodes i noNode))) xs
+putNodes at nodes xs = upto 64 (putNode at nodes) xs
 
 -- The counts of a room are 8 numbers in the order of their fields.
 unfoldable pub metricsAt : List ℕ → ℕ → MetricsCollector

@@ -1,11 +1,9 @@
 // State as a lent list of 64-bit numbers, for entries that can be lent numbers and nothing else. A place past the end reads as 0, and nothing is
 // put there, so that no call has to be refused for the length of its list.
 ghost use mathlib.Core.Path.{_≡_};
-ghost use mathlib.Core.List.{List, [], _∷_};
 ghost use Prim.Native.Nat.{_+_, _≤_};
 ghost use lib.ListN.{getD, set};
 ghost use lib.Seq.{sets};
-ghost use Rattle.loops.specs.Pick.{either};
 ghost use Rattle.engines.specs.Numbers.{cell, truth, stateNumber, stateNumbered, nodeAt, nodesAt, nodeNumbers, putNodes, metricsAt, metricsNumbers};
 use super::metrics::MetricsCollector;
 use super::node::Node;
@@ -184,7 +182,7 @@ pub fn metrics_of(xs: &[u64], at: usize) -> MetricsCollector
 }
 
 pub fn put_metrics(xs: &mut [u64], at: usize, m: MetricsCollector)
-    ensures { λ _. ⌜ now (xs .exit) ≡ sets (now (xs .entry)) (at + 0) (metricsNumbers m) ⌝ }
+    ensures { λ _. ⌜ now (xs .exit) ≡ sets (now (xs .entry)) at (metricsNumbers m) ⌝ }
 {
     let values = [
         m.nacks_sent,

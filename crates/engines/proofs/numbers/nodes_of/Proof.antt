@@ -1,56 +1,22 @@
+use mathlib.Core.Path.{_≡_}
+use Prim.Native.Nat.{_*_, _≤_, _-_}
+use native.Mathlib.Omega.{arith}
+use Rattle.loops.specs.Table.{filled, filled-none, filled-turn, filled-all}
+use Rattle.engines.specs.Nodes.{noNode}
+use Rattle.engines.specs.Numbers.{nodeAt, nodesAt}
 use borrow.Author.Needs.{needs}
 use Rattle.engines.proofs.numbers.nodes_of.Statement.{statement}
 use Rattle.engines.proofs.numbers.nodes_of.Tie as tie
-use Rattle.engines.proofs.numbers.nodes_of.Reads as reads
-use Rattle.engines.proofs.numbers.nodes_of.Lts as lts
-use Rattle.engines.proofs.node.Node.new.Reads as new-reads
-use Rattle.engines.proofs.numbers.node_of.Reads as node-of-reads
 
 abbrev Inv-loop : tie.InvT-loop
-Inv-loop xs at a₀ i₀ a i = ?
+Inv-loop xs at a₀ i₀ a i = (i ≤ 64) × (a ≡ filled noNode 64 i (λ j. nodeAt xs at (j * 8)))
 
 abbrev μ-loop : tie.MeasureT-loop
-μ-loop xs at a₀ i₀ a i = ?
+μ-loop xs at a₀ i₀ a i = 64 - i
 
--- src/numbers.rt:142:9
-new-requires : tie.Need-new-requires Inv-loop μ-loop
-new-requires c κs = search needs
-
--- src/numbers.rt:145:5
-loop-holds : tie.Need-loop-holds Inv-loop μ-loop
-loop-holds c = search needs
-
--- src/numbers.rt:146:32
-mul-node-of : tie.Need-mul-node-of Inv-loop μ-loop
-mul-node-of c = search needs
-
--- src/numbers.rt:146:16
-node-of-requires : tie.Need-node-of-requires Inv-loop μ-loop
-node-of-requires c κs = search needs
-
--- src/numbers.rt:146:9
-mul-a : tie.Need-mul-a Inv-loop μ-loop
-mul-a c = search needs
-
--- src/numbers.rt:146:9
-array-set-from-a : tie.Need-array-set-from-a Inv-loop μ-loop
-array-set-from-a c = search needs
-
--- src/numbers.rt:147:9
-add-i : tie.Need-add-i Inv-loop μ-loop
-add-i c = search needs
-
--- src/numbers.rt:145:5
-loop-less : tie.Need-loop-less Inv-loop μ-loop
-loop-less c = search needs
-
--- src/numbers.rt:145:5
-loop-again : tie.Need-loop-again Inv-loop μ-loop
-loop-again c = search needs
-
--- src/numbers.rt:139:1
 returns : tie.Need-returns Inv-loop μ-loop
-returns c = search needs
+unfolding nodesAt
+returns c = filled-all noNode 64 _ (c .before .loop .inv .0) (c .loop-test .left) (c .before .loop .inv .1)
 
 pub nodes-of-spec : {M : Type 1} → statement M
 nodes-of-spec =
@@ -58,13 +24,13 @@ nodes-of-spec =
     (tie.spec
     Inv-loop
     μ-loop
-    new-requires
-    loop-holds
-    mul-node-of
-    node-of-requires
-    mul-a
-    array-set-from-a
-    add-i
-    loop-less
-    loop-again
+    (λ c κs. search needs)
+    (λ c. (omega arith, rw (c .new .ensures) (filled-none noNode 64 _)))
+    (λ c. search needs)
+    (λ c κs. search needs)
+    (λ c. search needs)
+    (λ c. search needs)
+    (λ c. search needs)
+    (λ c. search needs)
+    (λ c. (omega arith, filled-turn noNode 64 _ (omega arith) (c .before .before .loop .inv .1) (c .node-of .ensures)))
     returns)

@@ -1,55 +1,19 @@
+use mathlib.Core.Path.{_≡_, refl, ap, _∙_}
+use mathlib.Core.List.{List}
+use Prim.Native.Nat.{ℕ, _+_, _≤_, _-_}
+use native.Mathlib.Omega.{arith}
+use lib.ListN.{length, take, getD, set}
+use lib.Seq.{sets, length-sets, take-all}
 use borrow.Author.Needs.{needs}
+use Rattle.engines.proofs.Storing.{run-turn}
 use Rattle.engines.proofs.numbers.put_from.Statement.{statement}
 use Rattle.engines.proofs.numbers.put_from.Tie as tie
-use Rattle.engines.proofs.numbers.put_from.Reads as reads
-use Rattle.engines.proofs.numbers.put_from.Lts as lts
-use Rattle.engines.proofs.numbers.put.Reads as put-reads
 
 abbrev Inv-loop : tie.InvT-loop
-Inv-loop xs₀ at values i₀ xs i = ?
+Inv-loop xs₀ at values i₀ xs i = (i ≤ length values) × (xs ≡ sets xs₀ at (take i values))
 
 abbrev μ-loop : tie.MeasureT-loop
-μ-loop xs₀ at values i₀ xs i = ?
-
--- src/numbers.rt:63:5
-loop-holds : tie.Need-loop-holds Inv-loop μ-loop
-loop-holds c = search needs
-
--- src/numbers.rt:64:17
-add-put : tie.Need-add-put Inv-loop μ-loop
-add-put c = search needs
-
--- src/numbers.rt:64:25
-mul-put : tie.Need-mul-put Inv-loop μ-loop
-mul-put c = search needs
-
--- src/numbers.rt:64:25
-shared-slice-read-put : tie.Need-shared-slice-read-put Inv-loop μ-loop
-shared-slice-read-put c = search needs
-
--- src/numbers.rt:64:9
-put-requires : tie.Need-put-requires Inv-loop μ-loop
-put-requires c κs = search needs
-
--- src/numbers.rt:65:9
-add-i : tie.Need-add-i Inv-loop μ-loop
-add-i c = search needs
-
--- src/numbers.rt:63:5
-loop-less : tie.Need-loop-less Inv-loop μ-loop
-loop-less c = search needs
-
--- src/numbers.rt:63:5
-loop-again : tie.Need-loop-again Inv-loop μ-loop
-loop-again c = search needs
-
--- src/numbers.rt:58:1
-same-length : tie.Need-same-length Inv-loop μ-loop
-same-length c = search needs
-
--- src/numbers.rt:58:1
-returns : tie.Need-returns Inv-loop μ-loop
-returns c = search needs
+μ-loop xs₀ at values i₀ xs i = length values - i
 
 pub put-from-spec : {M : Type 1} → statement M
 put-from-spec =
@@ -57,13 +21,17 @@ put-from-spec =
     (tie.spec
     Inv-loop
     μ-loop
-    loop-holds
-    add-put
-    mul-put
-    shared-slice-read-put
-    put-requires
-    add-i
-    loop-less
-    loop-again
-    same-length
-    returns)
+    (λ c. (omega arith, refl))
+    (λ c. search needs)
+    (λ c. search needs)
+    (λ c. search needs)
+    (λ c κs. search needs)
+    (λ c. search needs)
+    (λ c. search needs)
+    (λ c. (
+      omega arith,
+      c .before .before .put .ensures ∙ ap (λ (l : List ℕ). set l (c .before .before .before .before .before .before .before .before .before .args .at + c .before .before .before .before .before .before .loop .i) (getD (c .before .before .before .before .before .before .before .before .before .args .values .now) (c .before .before .before .before .before .before .loop .i) 0)) (c .before .before .before .before .before .before .loop .inv .1) ∙
+          run-turn (c .before .before .before .before .before .before .before .before .before .args .xs .now) (c .before .before .before .before .before .before .before .before .before .args .values .now) (c .before .before .before .before .before .before .before .before .before .args .at) (c .before .before .before .before .before .before .loop .i) (omega arith),
+    ))
+    (λ c. ap length (c .before .loop .inv .1) ∙ length-sets (c .before .before .before .before .args .xs .now) (c .before .before .before .before .args .at) (take (c .before .loop .i) (c .before .before .before .before .args .values .now)))
+    (λ c. c .before .loop .inv .1 ∙ ap (sets (c .before .before .before .before .args .xs .now) (c .before .before .before .before .args .at)) (take-all (c .before .loop .i) (c .before .before .before .before .args .values .now) (c .loop-test .left))))
