@@ -11,3 +11,4 @@ pub mod Cases
 pub mod Ce
 pub mod Capture
 pub mod Numbers
+pub mod Payloads

@@ -8,7 +8,7 @@ use lib.Dec.{eqb}
 use lib.ListN.{getD}
 use lib.Seq.{sets}
 use Rattle.loops.specs.Pick.{either}
-use Rattle.loops.specs.Table.{filled}
+use Rattle.loops.specs.Table.{tabulate}
 use Rattle.loops.specs.Upto.{upto}
 use Rattle.engines.specs.Nodes.{noNode}
 use Rattle.engines.specs.declared.node.Node.{Node}
@@ -54,7 +54,7 @@ nodeNumbers v =
 
 -- 64 nodes, one behind the other
 unfoldable pub nodesAt : List ℕ → ℕ → List Node
-nodesAt xs at = filled noNode 64 64 (λ i. nodeAt xs at (i * 8))
+nodesAt xs at = tabulate 64 (λ i. nodeAt xs at (i * 8))
 
 abbrev pub putNode : ℕ → List Node → ℕ → List ℕ → List ℕ
 putNode at nodes i xs = sets xs (at + i * 8) (nodeNumbers (getD nodes i noNode))

@@ -6,6 +6,7 @@ pub mod limits;
 pub mod metrics;
 pub mod node;
 pub mod numbers;
+pub mod payloads;
 pub mod plan;
 pub mod rows;
 pub mod settings;

@@ -1,10 +1,11 @@
-use mathlib.Core.Path.{_≡_}
+use mathlib.Core.Path.{_≡_, _∙_}
 use Prim.Native.Nat.{_*_, _≤_, _-_}
 use native.Mathlib.Omega.{arith}
 use Rattle.loops.specs.Table.{filled, filled-none, filled-turn, filled-all}
 use Rattle.engines.specs.Nodes.{noNode}
 use Rattle.engines.specs.Numbers.{nodeAt, nodesAt}
 use borrow.Author.Needs.{needs}
+use Rattle.engines.proofs.Storing.{filled-whole}
 use Rattle.engines.proofs.numbers.nodes_of.Statement.{statement}
 use Rattle.engines.proofs.numbers.nodes_of.Tie as tie
 
@@ -16,7 +17,7 @@ abbrev μ-loop : tie.MeasureT-loop
 
 returns : tie.Need-returns Inv-loop μ-loop
 unfolding nodesAt
-returns c = filled-all noNode 64 _ (c .before .loop .inv .0) (c .loop-test .left) (c .before .loop .inv .1)
+returns c = filled-all noNode 64 _ (c .before .loop .inv .0) (c .loop-test .left) (c .before .loop .inv .1) ∙ filled-whole noNode 64 _
 
 pub nodes-of-spec : {M : Type 1} → statement M
 nodes-of-spec =
