@@ -13,3 +13,4 @@ pub mod Recording
 pub mod RowCounts
 pub mod Settling
 pub mod Storing
+pub mod Stating

@@ -12,3 +12,4 @@ pub mod Ce
 pub mod Capture
 pub mod Numbers
 pub mod Payloads
+pub mod Console

@@ -2,6 +2,7 @@
 // `pipeline` the third of the layers.
 pub mod capture;
 pub mod ce;
+pub mod console;
 pub mod limits;
 pub mod metrics;
 pub mod node;
