@@ -167,11 +167,17 @@ fn say_state(refusal: u64, state: &[u64], rows: &[u64]) {
     io::write_all(1, b"\n");
 }
 
-fn play(at: &[u64; 16], room: &[u64], state: &mut [u64], words: &[u64], links: &[u64], rows: &mut [u64]) {
-    fill(rows, 7);
+fn round(
+    at: &[u64; 16],
+    room: &[u64],
+    state: &mut [u64],
+    words: &[u64],
+    links: &[u64],
+    rows: &mut [u64],
+) -> u64 {
     let count = at_most(numbers::number(room, 11), words.len());
     let end = at_most(at[3], rows.len());
-    let refusal = console::ce_round(
+    console::ce_round(
         state,
         &words[..count],
         links,
@@ -184,11 +190,30 @@ fn play(at: &[u64; 16], room: &[u64], state: &mut [u64], words: &[u64], links: &
         numbers::number(room, 8),
         at[1] as usize,
         at[2],
-    );
+    )
+}
+
+fn play(
+    at: &[u64; 16],
+    room: &[u64],
+    state: &mut [u64],
+    words: &[u64],
+    links: &[u64],
+    rows: &mut [u64],
+) {
+    fill(rows, 7);
+    let refusal = round(at, room, state, words, links, rows);
     say_state(refusal, state, rows);
 }
 
-fn answer(l: Line, room: &mut [u64], state: &mut [u64], words: &mut [u64], links: &mut [u64], rows: &mut [u64]) {
+fn answer(
+    l: Line,
+    room: &mut [u64],
+    state: &mut [u64],
+    words: &mut [u64],
+    links: &mut [u64],
+    rows: &mut [u64],
+) {
     let at = l.at;
     let kind = at[0];
     match kind {
@@ -207,8 +232,20 @@ fn byte_at(text: &[u8], i: usize) -> u8 {
     0
 }
 
-fn read(l: Line, b: u8) -> Line {
+fn feed(
+    l: Line,
+    b: u8,
+    room: &mut [u64],
+    state: &mut [u64],
+    words: &mut [u64],
+    links: &mut [u64],
+    rows: &mut [u64],
+) -> Line {
     match b {
+        10 => {
+            answer(with_number(l), room, state, words, links, rows);
+            empty_line()
+        }
         32 => with_number(l),
         48..=57 => with_digit(l, (b - 48) as u64),
         _ => l,
@@ -227,11 +264,15 @@ fn main() {
     let mut i: usize = 0;
     while i < n {
         let b = byte_at(&text, i);
-        l = read(l, b);
-        if b == 10 {
-            answer(with_number(l), &mut room, &mut state, &mut words, &mut links, &mut rows);
-            l = empty_line();
-        }
+        l = feed(
+            l,
+            b,
+            &mut room,
+            &mut state,
+            &mut words,
+            &mut links,
+            &mut rows,
+        );
         i += 1;
     }
 }
