@@ -239,21 +239,16 @@ fn start(conf: CeRound, c: CeState, initiator: usize, cursor: usize) -> CeState
 {
     let voting = conf.voting;
     let nodes = c.nodes;
-    let held = c.held;
-    let metrics = c.metrics;
-    CeState {
-        nodes: turns::start_capture(nodes, voting.n, initiator, c.slot),
-        held,
-        slot: c.slot,
-        next_row: c.next_row,
-        bytes_sent: c.bytes_sent,
-        draw: Draw {
-            at: cursor,
-            short: false,
-        },
-        metrics,
-        ended: false,
-    }
+    let mut d = c;
+    let started = turns::start_capture(nodes, voting.n, initiator, c.slot);
+    let draw = Draw {
+        at: cursor,
+        short: false,
+    };
+    d.nodes = started;
+    d.draw = draw;
+    d.ended = false;
+    d
 }
 
 // Whether k slots more would pass slot 2^32 - 1. The difference stands for the sum, which could wrap.
