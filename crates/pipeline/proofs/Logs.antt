@@ -113,13 +113,13 @@ processed-kept ws p facts rounds q parts g =
     turn : (i : ℕ) (x : Processing) → AllKept (g .states) (x .states) → AllKept (g .states) (either (has parts i) (processAt ws p facts rounds q i x) x .states)
     turn i x a = pick (has parts i) (processAt ws p facts rounds q i x) x (all-more (g .states) (x .states) (processAt ws p facts rounds q i x .states) a (at-kept ws p facts rounds q i x)) a
 
-close-kept : (ws : List ℕ) (conf : PipelineConf) (p : Pipeline) (i : ℕ) (prep : Prepared) (f : FloodRun) → AllKept (set (p .states) i (prep .state)) (closeRound ws conf p i prep f .pipe .states)
+pub close-kept : (ws : List ℕ) (conf : PipelineConf) (p : Pipeline) (i : ℕ) (prep : Prepared) (f : FloodRun) → AllKept (set (p .states) i (prep .state)) (closeRound ws conf p i prep f .pipe .states)
 unfolding closeRound
 close-kept ws conf p i prep f =
     processed-kept ws (conf .settings .«abort_probability») (factsOf conf p (f .slot)) (prep .txs .rounds) (prep .packet) (partsOf (conf .n) i (setsOf (conf .n) (f .at) .sleeping))
     (record { states = set (p .states) i (prep .state); ledger = record { draw = f .draw; book = prep .book; piggyback = Absent; answers = 0 } })
 
-preparing-kept : (ws : List ℕ) (conf : PipelineConf) (p : Pipeline) (i : ℕ) (d : Draw) → AllKept (p .states) (set (p .states) i (preparing ws conf p i d .state))
+pub preparing-kept : (ws : List ℕ) (conf : PipelineConf) (p : Pipeline) (i : ℕ) (d : Draw) → AllKept (p .states) (set (p .states) i (preparing ws conf p i d .state))
 unfolding preparing
 preparing-kept ws conf p i d =
     set-kept (p .states) i (preparing ws conf p i d .state)
@@ -137,7 +137,7 @@ run-kept ws conf p d =
 pub answer-kept : (ws : List ℕ) (numbers used : ℕ) (conf : PipelineConf) (p : Pipeline) (cursor : ℕ) → AllKept (p .states) (roundAnswer ws numbers used conf p cursor .pipe .states)
 unfolding roundAnswer lateAnswer
 answer-kept ws numbers used conf p cursor =
-    pick (eqb (earlyRefusal conf p) 0) _ _ (pick (eqb (lateRefusal numbers used x) 0) (acceptedWith x) (refusedWith (lateRefusal numbers used x) p cursor) (run-kept ws conf p (startDraw cursor)) same) same
+    pick (eqb (earlyRefusal conf p) 0) _ _ (pick (eqb (lateRefusal numbers used x) 0) (acceptedWith used x) (refusedWith (lateRefusal numbers used x) p cursor used) (run-kept ws conf p (startDraw cursor)) same) same
   where
     x : RoundRun
     x = runRound ws conf p (startDraw cursor)

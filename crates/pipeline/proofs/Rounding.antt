@@ -1,5 +1,5 @@
 -- A pipeline round step by step, and its refusals. Assumes nothing.
-use Prim.Native.Nat.{ℕ, _+_, _≤_, _<_, _%_, _^_}
+use Prim.Native.Nat.{ℕ, _+_, _-_, _*_, _/_, _≤_, _<_, _%_, _^_}
 use mathlib.Core.Bool.{Bool, true, false, _||_}
 use mathlib.Core.List.{List}
 use mathlib.Core.Path.{_≡_, refl, sym, ap, _∙_}
@@ -10,6 +10,7 @@ use native.Mathlib.Omega.{arith}
 use borrow.Author.Tests.{eq-eqb, ne-eqb, eqb-true, eqb-false, ltb-true, ltb-false}
 use Rattle.loops.specs.Pick.{either}
 use Rattle.engines.specs.Nodes.{inc, setsOf}
+use Rattle.engines.specs.Rows.{rowsRefused}
 use Rattle.pipeline.specs.Flood.{writtenRound}
 use Rattle.pipeline.specs.Pending.{joinMarks}
 use Rattle.pipeline.specs.Pipeline.{partsOf, Processing, processAll, shortestLog, progressAll, stopsAt}
@@ -98,18 +99,29 @@ early-size n bound len slot stop e = go (eqb n 0) refl (ltb 64 n) refl e
 
 module _ (ws : List ℕ) (rows : List ℕ) (used : ℕ) (conf : PipelineConf) (p : Pipeline) (cursor early : ℕ)
     (a : early ≡ earlyOf (conf .n) (conf .bound) (conf .length) (p .slot) (p .stop)) where
-  pub refused-early : {r : RoundAnswer} → (early ≡ 0 → ⊥) → r ≡ refusedWith early p cursor → (r ≡ roundAnswer ws (length rows) used conf p cursor) × (rows ≡ roundBuffer ws rows used conf p cursor)
+  pub refused-early : {r : RoundAnswer} → (early ≡ 0 → ⊥) → r ≡ refusedWith early p cursor used → (r ≡ roundAnswer ws (length rows) used conf p cursor) × (rows ≡ roundBuffer ws rows used conf p cursor)
   unfolding roundAnswer roundBuffer
   refused-early ne e = (rw (← a, ne-eqb early 0 ne) e, rw (← a, ne-eqb early 0 ne))
 
   module _ (z : early ≡ 0) {x : RoundRun} (b : x ≡ runRound ws conf p (startDraw cursor)) (late : ℕ) (c : late ≡ lateOf (length rows) used (x .draw .short) (x .due)) where
-    pub refused-late : {r : RoundAnswer} → (late ≡ 0 → ⊥) → r ≡ refusedWith late p cursor → (r ≡ roundAnswer ws (length rows) used conf p cursor) × (rows ≡ roundBuffer ws rows used conf p cursor)
+    pub refused-late : {r : RoundAnswer} → (late ≡ 0 → ⊥) → r ≡ refusedWith late p cursor used → (r ≡ roundAnswer ws (length rows) used conf p cursor) × (rows ≡ roundBuffer ws rows used conf p cursor)
     unfolding roundAnswer roundBuffer lateAnswer lateBuffer
     refused-late ne e =
         (rw (← a, eq-eqb early 0 z, ← b, ← c, ne-eqb late 0 ne) e, rw (← a, eq-eqb early 0 z, ← b, ← c, ne-eqb late 0 ne))
 
     pub accepted : {final : List ℕ} → late ≡ 0 → final ≡ either (eqb (x .due) 0) rows (rowsOfRound ws conf p (startDraw cursor) rows used)
-        → (acceptedWith x ≡ roundAnswer ws (length rows) used conf p cursor) × (final ≡ roundBuffer ws rows used conf p cursor)
+        → (acceptedWith used x ≡ roundAnswer ws (length rows) used conf p cursor) × (final ≡ roundBuffer ws rows used conf p cursor)
     unfolding roundAnswer roundBuffer lateAnswer lateBuffer
     accepted k e =
         (rw (← a, eq-eqb early 0 z, ← b, ← c, eq-eqb late 0 k), rw (← a, eq-eqb early 0 z, ← b, ← c, eq-eqb late 0 k) e)
+
+-- an accepted round's rows fit behind those used
+pub late-fits : (numbers used due : ℕ) (short : Bool) → lateOf numbers used short due ≡ 0 → used + due ≤ numbers
+unfolding lateOf rowsRefused
+late-fits numbers used due short e = go short (ltb numbers (used * 5)) refl (ltb ((numbers - used * 5) / 5) due) refl e
+  where
+    go : (s x : Bool) → ltb numbers (used * 5) ≡ x → (y : Bool) → ltb ((numbers - used * 5) / 5) due ≡ y → _≡_ {A = ℕ} (either s 16 (either (x || y) 17 0)) 0 → used + due ≤ numbers
+    go true x p y q z = absurd (let w : _≡_ {A = ℕ} 16 0 = z in omega arith)
+    go false true p y q z = absurd (let w : _≡_ {A = ℕ} 17 0 = z in omega arith)
+    go false false p true q z = absurd (let w : _≡_ {A = ℕ} 17 0 = z in omega arith)
+    go false false p false q z = let a = ltb-false numbers (used * 5) p in let b = ltb-false ((numbers - used * 5) / 5) due q in omega arith

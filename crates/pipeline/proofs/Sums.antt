@@ -68,7 +68,7 @@ both : (b : Bool) (x y v : Node) → Alike x v → Alike y v → Alike (either b
 both true x y v p q = p
 both false x y v p q = q
 
-next-alike : (repeats : ℕ) (heard : Bool) (v : Node) → Alike (nextNode repeats heard v) v
+pub next-alike : (repeats : ℕ) (heard : Bool) (v : Node) → Alike (nextNode repeats heard v) v
 unfolding nextNode afterFlood afterListen
 next-alike repeats heard v = go (v .state)
   where
@@ -82,10 +82,10 @@ unfolding turnedAll turnAt
 turned-sums {n} {base} {slot} m repeats received l s =
     upto-holds (λ (t : List Node). Sums n base slot t) (turnAt repeats received) (λ i t. kept-sums (nextNode repeats (has received i)) (next-alike repeats (has received i)) t i) (few m) l s
 
-inc-is : (x : ℕ) → x < 2 ^ 32 → inc x ≡ x + 1
+pub inc-is : (x : ℕ) → x < 2 ^ 32 → inc x ≡ x + 1
 inc-is x h = mod-eq-of-lt (omega arith)
 
-ticked-sums : {n base slot : ℕ} (l : List Node) → n ≤ 64 → slot < 2 ^ 32 → Sums n base slot l → Sums n base (slot + 1) (tickedAll n l)
+pub ticked-sums : {n base slot : ℕ} (l : List Node) → n ≤ 64 → slot < 2 ^ 32 → Sums n base slot l → Sums n base (slot + 1) (tickedAll n l)
 ticked-sums {n} {base} {slot} l m h s =
     record {
       long = omega (arith, s .long, ticked-length n l);
@@ -116,7 +116,7 @@ round-sums {base} ws links conf k f m h s =
     keeps k f q = (omega (arith, q .0, next-slot ws links conf f (omega (arith, q .0))), slot-sums ws links conf f m (omega (arith, q .0)) (q .1))
 
 -- The start of a round touches no count.
-reset-alike : (v : Node) → Alike (resetRound v) v
+pub reset-alike : (v : Node) → Alike (resetRound v) v
 unfolding resetRound
 reset-alike v = record { listen = refl; flood = refl; sleep = refl }
 

@@ -42,7 +42,7 @@ pipeline-sums ws conf p d m h s =
     progress-sums (conf .n) (conf .txs) _ _ _ (flood-of-sums ws conf p (initiatorOf conf p) (preparing ws conf p (initiatorOf conf p) d) m h s)
 
 -- what an accepted opening of a round knows of its length
-early-length : (n bound len slot : ℕ) (stop : Bool) → earlyOf n bound len slot stop ≡ 0 → slot + len ≤ 4294967295
+pub early-length : (n bound len slot : ℕ) (stop : Bool) → earlyOf n bound len slot stop ≡ 0 → slot + len ≤ 4294967295
 unfolding earlyOf
 early-length n bound len slot stop e = go (eqb n 0 || ltb 64 n) (stop || leb bound slot) (ltb 4294967295 (slot + len)) refl e
   where
@@ -68,12 +68,12 @@ answer-sums {base} ws numbers used conf p cursor s = go (eqb early 0) refl
     Fine : RoundAnswer → Type 0
     Fine r = Sums (conf .n) base (r .pipe .slot) (r .pipe .at)
 
-    late : early ≡ 0 → (b : Bool) (k : ℕ) → Fine (either b (acceptedWith x) (refusedWith k p cursor))
+    late : early ≡ 0 → (b : Bool) (k : ℕ) → Fine (either b (acceptedWith used x) (refusedWith k p cursor used))
     late e true k =
         pipeline-sums ws conf p (startDraw cursor) (early-size _ _ _ _ _ e .1) (omega (arith, early-length (conf .n) (conf .bound) (conf .length) (p .slot) (p .stop) e)) s
     late e false k = s
 
-    go : (b : Bool) → eqb early 0 ≡ b → Fine (either b (either (eqb (lateRefusal numbers used x) 0) (acceptedWith x) (refusedWith (lateRefusal numbers used x) p cursor)) (refusedWith early p cursor))
+    go : (b : Bool) → eqb early 0 ≡ b → Fine (either b (either (eqb (lateRefusal numbers used x) 0) (acceptedWith used x) (refusedWith (lateRefusal numbers used x) p cursor used)) (refusedWith early p cursor used))
     go true e = late (eqb-true early 0 e) (eqb (lateRefusal numbers used x) 0) (lateRefusal numbers used x)
     go false e = s
 

@@ -223,22 +223,22 @@ lateRefusal numbers used x = lateOf numbers used (x .draw .short) (x .due)
 abbrev pub startDraw : ℕ → Draw
 startDraw cursor = record { at = cursor; short = false }
 
-abbrev pub refusedWith : ℕ → Pipeline → ℕ → RoundAnswer
-refusedWith k p cursor = record { refusal = k; cursor = cursor; pipe = p }
+abbrev pub refusedWith : ℕ → Pipeline → ℕ → ℕ → RoundAnswer
+refusedWith k p cursor used = record { refusal = k; cursor = cursor; used = used; pipe = p }
 
-abbrev pub acceptedWith : RoundRun → RoundAnswer
-acceptedWith x = record { refusal = 0; cursor = x .draw .at; pipe = x .pipe }
+abbrev pub acceptedWith : ℕ → RoundRun → RoundAnswer
+acceptedWith used x = record { refusal = 0; cursor = x .draw .at; used = used + x .due; pipe = x .pipe }
 
--- A refused call hands back the room and the cursor as they were.
+-- A refused call hands back the room, the cursor and the number of rows used as they were.
 unfoldable pub lateAnswer : ℕ → ℕ → Pipeline → ℕ → RoundRun → RoundAnswer
 lateAnswer numbers used p cursor x =
-    either (eqb (lateRefusal numbers used x) 0) (acceptedWith x) (refusedWith (lateRefusal numbers used x) p cursor)
+    either (eqb (lateRefusal numbers used x) 0) (acceptedWith used x) (refusedWith (lateRefusal numbers used x) p cursor used)
 
 unfoldable pub roundAnswer : List ℕ → ℕ → ℕ → PipelineConf → Pipeline → ℕ → RoundAnswer
 roundAnswer ws numbers used conf p cursor =
     either (eqb (earlyRefusal conf p) 0)
     (lateAnswer numbers used p cursor (runRound ws conf p (startDraw cursor)))
-    (refusedWith (earlyRefusal conf p) p cursor)
+    (refusedWith (earlyRefusal conf p) p cursor used)
 
 -- .. and the buffer too. With no row due it stays as well.
 unfoldable pub lateBuffer : List ℕ → PipelineConf → Pipeline → ℕ → List ℕ → ℕ → RoundRun → List ℕ

@@ -72,10 +72,11 @@ pub struct RoundRun {
     pub due: u64,
 }
 
-// 01's refusal number (0: none), the cursor and the room; the old ones if refused.
+// 01's refusal number (0: none), the cursor, how many rows are used, and the room; the old ones if refused.
 pub struct RoundAnswer {
     pub refusal: u64,
     pub cursor: usize,
+    pub used: usize,
     pub pipe: Pipeline,
 }
 
@@ -453,12 +454,13 @@ fn late_refusal(short: bool, due: u64, numbers: usize, used: usize) -> u64
     0
 }
 
-fn refused(refusal: u64, p: Pipeline, cursor: usize) -> RoundAnswer
-    ensures { λ r. ⌜ r ≡ refusedWith refusal p cursor ⌝ }
+fn refused(refusal: u64, p: Pipeline, cursor: usize, used: usize) -> RoundAnswer
+    ensures { λ r. ⌜ r ≡ refusedWith refusal p cursor used ⌝ }
 {
     RoundAnswer {
         refusal,
         cursor,
+        used,
         pipe: p,
     }
 }
@@ -496,7 +498,7 @@ pub fn pipeline_round(
 {
     let early = early_refusal(conf, p.slot, p.stop);
     if early != 0 {
-        return refused(early, p, cursor);
+        return refused(early, p, cursor, used);
     }
     let d = Draw {
         at: cursor,
@@ -505,13 +507,14 @@ pub fn pipeline_round(
     let x = run_round(words, conf, p, d);
     let late = late_refusal(x.draw.short, x.due, rows.len(), used);
     if late != 0 {
-        return refused(late, p, cursor);
+        return refused(late, p, cursor, used);
     }
     write_due(words, conf, p, d, rows, used, x.due);
     let pipe = x.pipe;
     RoundAnswer {
         refusal: 0,
         cursor: x.draw.at,
+        used: used + x.due as usize,
         pipe,
     }
 }

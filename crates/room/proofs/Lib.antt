@@ -1,0 +1,7 @@
+pub mod Answers
+pub mod Counting
+pub mod Holding
+pub mod Moments
+pub mod Calling
+pub mod Flooding
+pub mod Demand

@@ -1,0 +1,72 @@
+-- Demand 3: one statement over lists of a room's calls. Assumes nothing: it is proved in proofs/Demand.antt.
+use mathlib.Core.Path.{_≡_}
+use mathlib.Core.List.{List, [], _∷_, List·Memᴰ}
+use Prim.Native.Nat.{ℕ, _*_, _<_, _^_}
+use lib.ListN.{getD, take}
+use Rattle.packets.specs.Merging.{nobody}
+use Rattle.packets.specs.Sound.{AllYes, SomeNo}
+use Rattle.packets.specs.declared.TwoPcPhase.{TwoPcPhase}
+use Rattle.packets.specs.declared.TwoPcPhase.the-variants.{Prepare, Committed, Aborted}
+use Rattle.packets.specs.declared.merging.Held.the-variants.{Packet}
+use Rattle.packets.specs.declared.merging.Payload.{Payload}
+use Rattle.engines.specs.Nodes.{total}
+use Rattle.engines.specs.declared.settings.Settings.{Settings}
+use Rattle.pipeline.specs.Pending.{noEntry}
+use Rattle.pipeline.specs.Pipeline.{noState}
+use Rattle.pipeline.specs.declared.two_pc_pipeline.TxLog.{TxLog}
+use Rattle.room.specs.declared.room.RoomKind.{RoomKind}
+use Rattle.room.specs.declared.room.RoomKind.the-variants as kinds
+use Rattle.room.specs.declared.room.Room.{Room}
+use Rattle.room.specs.Rooms.{sizeOf, noesOf, openOf}
+use Rattle.room.specs.Calls.{Call, after, elapsed, moments}
+
+-- the log of position v
+abbrev pub logAt : Room → ℕ → TxLog
+logAt r v = getD (r .rounds .states) v noState .log
+
+-- entry k of a log a is there, and is entry k of b too: the same transaction with the same outcome
+pub record Logged (a b : TxLog) (k : ℕ) : Type 0 where
+  pub there : k < b .len
+  pub same : getD (b .entries) k noEntry ≡ getD (a .entries) k noEntry
+
+-- what position v holds
+abbrev pub heldAt : Room → ℕ → Payload
+heldAt r v = getD (r .terms .held) v nobody
+
+-- Position v holds phase f for term t. An empty one holds none; nor does any position of a pipeline room.
+pub record HoldsPhase (r : Room) (v t : ℕ) (f : TwoPcPhase) : Type 0 where
+  pub kind : r .conf .kind ≡ kinds.Capture
+  pub position : v < sizeOf r
+  pub held : heldAt r v .held ≡ Packet
+  pub term : heldAt r v .packet .term ≡ t
+  pub phase : heldAt r v .packet .phase ≡ f
+
+-- all votes of the room's positions for term t are yes; one or more are no
+abbrev pub AllVoteYes : Room → ℕ → Type 0
+AllVoteYes r t = AllYes (noesOf (r .conf)) (sizeOf r) t
+
+abbrev pub SomeVoteNo : Room → ℕ → Type 0
+SomeVoteNo r t = SomeNo (noesOf (r .conf)) (sizeOf r) t
+
+-- The demand's clauses: the room was opened as o, e slots have elapsed, a is an earlier moment and b is the present one. What is fixed is as it was opened.
+pub record Holds (o : Room) (e : ℕ) (a b : Room) : Type 0 where
+  pub fixed : b .conf ≡ o .conf
+  pub slot : b .slot ≡ e
+  pub counts : total (take (sizeOf o) (b .nodes)) ≡ sizeOf o * e
+  pub logged : (v k : ℕ) → v < sizeOf o → k < logAt a v .len → Logged (logAt a v) (logAt b v) k
+  pub agreed : (u v t : ℕ) → HoldsPhase b u t Committed → HoldsPhase b v t Aborted → ⊥
+  pub committed : (v t : ℕ) → HoldsPhase b v t Committed → AllVoteYes o t
+  pub aborted : (v t : ℕ) → HoldsPhase b v t Aborted → SomeVoteNo o t
+  pub commitFirm : (v t : ℕ) (f : TwoPcPhase) → HoldsPhase a v t Committed → HoldsPhase b v t f → f ≡ Committed
+  pub abortFirm : (v t : ℕ) (f : TwoPcPhase) → HoldsPhase a v t Aborted → HoldsPhase b v t f → f ≡ Aborted
+
+-- For every accepted opening, every list of calls and every earlier moment.
+abbrev pub Demand3 : Type 0
+Demand3 =
+    (kind : RoomKind) (links : List ℕ) (settings : Settings) (transactions term interval bound : ℕ) → term < 2 ^ 64
+    → openOf kind links settings transactions term interval bound .refusal ≡ 0
+    → (calls : List Call) (a : Room) → List·Memᴰ a (moments calls (openOf kind links settings transactions term interval bound .room))
+    → Holds (openOf kind links settings transactions term interval bound .room)
+    (elapsed calls (openOf kind links settings transactions term interval bound .room))
+    a
+    (after calls (openOf kind links settings transactions term interval bound .room))

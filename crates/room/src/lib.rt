@@ -1,0 +1,2 @@
+// Rooms: opened, called, read. The fourth of the layers.
+pub mod room;
