@@ -33,7 +33,11 @@ pub fn payload_numbers(payload: &[u8]) -> Vec<u64> {
     };
     out[3] = p.proposal_data.len() as u64;
     out[4] = p.flags_bitmap.len() as u64;
-    out[5] = p.flags_bitmap.iter().enumerate().fold(0, |m, (i, b)| m | u64::from(*b) << i);
+    out[5] = p
+        .flags_bitmap
+        .iter()
+        .enumerate()
+        .fold(0, |m, (i, b)| m | u64::from(*b) << i);
     for (i, b) in p.proposal_data.iter().enumerate() {
         out[6 + i] = u64::from(*b);
     }
@@ -172,7 +176,11 @@ mod sampled {
             let mut rows = vec![UNUSED; BUFFER];
             let refusal = self.accepted(slots, numbers, &mut rows).err().unwrap_or(0);
             let state = self.state();
-            let shown: Vec<String> = state[..6].iter().chain(&state[METRICS + 2..METRICS + 5]).map(u64::to_string).collect();
+            let shown: Vec<String> = state[..6]
+                .iter()
+                .chain(&state[METRICS + 2..METRICS + 5])
+                .map(u64::to_string)
+                .collect();
             println!("> {refusal} {} {} {}", shown.join(" "), digest(&state), digest(&rows));
         }
 
@@ -184,7 +192,15 @@ mod sampled {
             let (end, goal, nodes, metrics, next_row) = caught(|| self.room.run(slots, &mut rng)).map_err(|_| 16u64)?;
             let due: Vec<u64> = metrics.snapshots[self.room.metrics.snapshots.len()..]
                 .iter()
-                .flat_map(|s| [s.slot, s.nodes_goal_reached as u64, s.nodes_listening as u64, s.nodes_flooding as u64, s.nodes_sleeping as u64])
+                .flat_map(|s| {
+                    [
+                        s.slot,
+                        s.nodes_goal_reached as u64,
+                        s.nodes_listening as u64,
+                        s.nodes_flooding as u64,
+                        s.nodes_sleeping as u64,
+                    ]
+                })
                 .collect();
             let at = self.used as usize * 5;
             if at + due.len() > numbers {
@@ -207,7 +223,8 @@ mod sampled {
         /// The rows that a round would have due.
         fn rows_due(&self, slots: u64) -> usize {
             let mut rng = ChaCha8Rng::of_words(&self.words, self.cursor);
-            caught(|| self.room.run(slots, &mut rng)).map_or(0, |r| r.3.snapshots.len() - self.room.metrics.snapshots.len())
+            caught(|| self.room.run(slots, &mut rng))
+                .map_or(0, |r| r.3.snapshots.len() - self.room.metrics.snapshots.len())
         }
     }
 
@@ -231,7 +248,9 @@ mod sampled {
         let (seed, first) = (r.next(), r.next());
         let count = if k % 7 == 6 { r.index(30) } else { 4000 };
         println!("< 1 {n} {number} {argument} {timeout} {loss} {abort} {seed} {interval} {first} {STEP} {count}");
-        let words = (0..count as u64).map(|i| first.wrapping_add(i.wrapping_mul(STEP))).collect();
+        let words = (0..count as u64)
+            .map(|i| first.wrapping_add(i.wrapping_mul(STEP)))
+            .collect();
         assert_eq!(rows_of_graph(&graph).len(), n);
         let mut s = Sampled {
             room: Capture::open(graph, 0, ABORTS[abort], seed, LOSSES[loss], timeout, 0, interval),
@@ -272,7 +291,11 @@ mod sampled {
             let marks = *r.pick(&[n, n, n, n.saturating_sub(1), (n + 1).min(64)]);
             let payload = serde_json::to_vec(&CeTwoPcPacket {
                 term: 1 + r.below(2),
-                phase: if i == 0 || r.chance(1, 4) { TwoPcCePhase::Prepare } else { phase },
+                phase: if i == 0 || r.chance(1, 4) {
+                    TwoPcCePhase::Prepare
+                } else {
+                    phase
+                },
                 proposal_data: (0..r.index(3)).map(|_| r.next() as u8).collect(),
                 flags_bitmap: (0..marks).map(|_| r.chance(5, 6)).collect(),
             })
@@ -371,7 +394,9 @@ mod compared {
 
         fn told(&self) -> String {
             let held: Vec<String> = (0..self.n)
-                .map(|i| String::from_utf8_lossy(&payload_text(&self.state[HELD + PAYLOAD * i..][..PAYLOAD])).into_owned())
+                .map(|i| {
+                    String::from_utf8_lossy(&payload_text(&self.state[HELD + PAYLOAD * i..][..PAYLOAD])).into_owned()
+                })
                 .collect();
             format!(
                 "n {} links {:x?} p {:?} seed {} timeout {} loss {:?} interval {} initiator {} slots {} counters {:?} rows {} words {} {:x?} held {}",
@@ -413,7 +438,9 @@ mod compared {
             refusal,
             counters: state[..6].to_vec(),
             metrics: state[METRICS..METRICS + 8].to_vec(),
-            nodes: (0..n).map(|i| state[NODES + 8 * i..][..8].try_into().unwrap()).collect(),
+            nodes: (0..n)
+                .map(|i| state[NODES + 8 * i..][..8].try_into().unwrap())
+                .collect(),
             held: (0..n)
                 .map(|i| String::from_utf8(payload_text(&state[HELD + PAYLOAD * i..][..PAYLOAD])).unwrap())
                 .collect(),
@@ -537,10 +564,17 @@ mod compared {
             let mut c = call.clone();
             c.words.truncate(ran.cursor as usize);
             let (refusal, state, rows) = c.made();
-            t.same("words exactly enough", c.size(), || c.told(), &seen(c.n, refusal, &state, &rows), whole);
+            t.same(
+                "words exactly enough",
+                c.size(),
+                || c.told(),
+                &seen(c.n, refusal, &state, &rows),
+                whole,
+            );
             c.words.truncate(ran.cursor as usize - 1);
             refused(t, m, "one word fewer", &c, 16);
-            c.words.truncate(start as usize + r.index((ran.cursor - start) as usize));
+            c.words
+                .truncate(start as usize + r.index((ran.cursor - start) as usize));
             refused(t, m, "words short", &c, 16);
             // 16 before 17
             c.rows.truncate(used * 5);
@@ -580,7 +614,13 @@ mod compared {
     }
 
     /// One round, after every slot. Hands back the state after the whole of it, if it was accepted.
-    fn round(t: &mut Tally, m: &mut Met, r: &mut Prng, room: &Capture, call: &Call) -> Option<(Vec<u64>, Vec<u64>, Ran)> {
+    fn round(
+        t: &mut Tally,
+        m: &mut Met,
+        r: &mut Prng,
+        room: &Capture,
+        call: &Call,
+    ) -> Option<(Vec<u64>, Vec<u64>, Ran)> {
         let rng = ChaCha8Rng::of_words(&call.words, call.state[4]);
         let Some(whole) = rust_run(room, &rng, call.slots) else {
             refused(t, m, "missing word", call, 16);
@@ -599,7 +639,13 @@ mod compared {
             let ours = seen(c.n, refusal, &state, &rows);
             let theirs = due(&c, &ran, bytes);
             t.same("state after a slot", c.size(), || c.told(), &ours, &theirs);
-            t.same("what belongs to nobody", c.size(), || c.told(), &rest(c.n, &state), &rest(c.n, &c.state));
+            t.same(
+                "what belongs to nobody",
+                c.size(),
+                || c.told(),
+                &rest(c.n, &state),
+                &rest(c.n, &c.state),
+            );
             let sleepers = ran.nodes.iter().filter(|v| v.state == NodeState::Sleep).count() as u64;
             met(m, "positions asleep after a slot", sleepers);
             acting = flooded(&ran.nodes);
@@ -613,7 +659,11 @@ mod compared {
         met(m, "rounds with goal", u64::from(ran.goal));
         met(m, "recoveries", ran.metrics[2] - room.metrics.ce_timeouts);
         met(m, "frames heard", ran.metrics[4] - room.metrics.rx_success);
-        met(m, "frames lost", ran.metrics[3] - room.metrics.rx_attempts - (ran.metrics[4] - room.metrics.rx_success));
+        met(
+            m,
+            "frames lost",
+            ran.metrics[3] - room.metrics.rx_attempts - (ran.metrics[4] - room.metrics.rx_success),
+        );
         met(m, "rows", ran.rows.len() as u64 / 5);
         met(m, "words drawn", ran.cursor - call.state[4]);
         if r.chance(1, 4) {
@@ -706,7 +756,10 @@ mod compared {
     fn call_of(room: &Capture, links: &[u64], words: Vec<u64>, state: Vec<u64>, rows: Vec<u64>) -> Call {
         let mut links = links.to_vec();
         // rows behind the positions are read by nobody
-        links.resize(if room.slot % 2 == 0 { 64 } else { links.len() }, if room.slot % 3 == 0 { 0 } else { u64::MAX });
+        links.resize(
+            if room.slot % 2 == 0 { 64 } else { links.len() },
+            if room.slot % 3 == 0 { 0 } else { u64::MAX },
+        );
         Call {
             state,
             words,
@@ -788,11 +841,21 @@ mod compared {
                 }
                 rows.resize(rows.len() + 5 * room.round_slots as usize, WAS);
                 let call = call_of(&room, &links, words.clone(), state.clone(), rows.clone());
-                let Some((after, filled, ran)) = round(t, m, r, &room, &call) else { break };
+                let Some((after, filled, ran)) = round(t, m, r, &room, &call) else {
+                    break;
+                };
                 (state, rows) = (after, filled);
                 if ran.goal {
                     let committed = room.protocol.abort_probability;
-                    met(m, if committed > 0.0 { "goals where some may vote no" } else { "goals where all vote yes" }, 1);
+                    met(
+                        m,
+                        if committed > 0.0 {
+                            "goals where some may vote no"
+                        } else {
+                            "goals where all vote yes"
+                        },
+                        1,
+                    );
                 }
                 close(&mut room, ran, &mut state);
                 if r.chance(1, 3) {
@@ -904,7 +967,13 @@ mod compared {
             call.state.truncate(cut);
             let (a, mut b) = (call.made(), long.made());
             b.1.truncate(cut);
-            t.same("a state cut short", call.size(), || format!("cut at {cut} {}", long.told()), &a, &b);
+            t.same(
+                "a state cut short",
+                call.size(),
+                || format!("cut at {cut} {}", long.told()),
+                &a,
+                &b,
+            );
         }
     }
 
@@ -916,12 +985,21 @@ mod compared {
             let mut room = Capture::open(g, 0, 0.0, 0, 0.3, 10, 100_000, (1 << 32) - 1);
             room.propose(0);
             let words: Vec<u64> = (0..400_000).map(|_| r.next()).collect();
-            let call = call_of(&room, &links, words.clone(), state_numbers(&room, 0, 0, false), vec![WAS; 5]);
+            let call = call_of(
+                &room,
+                &links,
+                words.clone(),
+                state_numbers(&room, 0, 0, false),
+                vec![WAS; 5],
+            );
             let rng = ChaCha8Rng::of_words(&words, 0);
             let ran = rust_run(&room, &rng, room.round_slots).unwrap();
             let (refusal, state, _) = call.made();
             assert_eq!((refusal, state[0], state[4]), (0, ran.end, ran.cursor));
-            println!("{what} of 64, loss 0.3, timeout 10: {} slots to the goal {}, {} words", ran.end, ran.goal, ran.cursor);
+            println!(
+                "{what} of 64, loss 0.3, timeout 10: {} slots to the goal {}, {} words",
+                ran.end, ran.goal, ran.cursor
+            );
             let mut theirs = || {
                 let mut g = rng.clone();
                 std::hint::black_box(room.run(room.round_slots, &mut g));
@@ -937,7 +1015,12 @@ mod compared {
         let mut t = Tally::new("capture");
         let mut m = Met::new();
         rooms(&mut t, &mut m, &mut Prng::of(o.seed, "capture rooms"), 20_000 * o.scale);
-        hands(&mut t, &mut m, &mut Prng::of(o.seed, "capture by hand"), 10_000 * o.scale);
+        hands(
+            &mut t,
+            &mut m,
+            &mut Prng::of(o.seed, "capture by hand"),
+            10_000 * o.scale,
+        );
         lists(&mut t, &mut Prng::of(o.seed, "capture lists"), 2_000 * o.scale);
         for (what, times) in &m {
             println!("met: {what}: {times}");
