@@ -1,5 +1,6 @@
 //! Compares our archives with the original program, part by part. See README.md.
 
+mod capture;
 mod graph;
 mod merges;
 mod oracle;
@@ -22,7 +23,7 @@ type Part = (&'static str, Option<fn(&Options) -> Tally>);
 
 fn parts() -> Vec<Part> {
     #[allow(unused_mut, clippy::vec_init_then_push)]
-    let mut all: Vec<Part> = vec![("graph", None), ("packets", None), ("merge", None)];
+    let mut all: Vec<Part> = vec![("graph", None), ("packets", None), ("merge", None), ("capture", None)];
     #[cfg(feature = "graph")]
     {
         all[0].1 = Some(graph::run);
@@ -31,6 +32,10 @@ fn parts() -> Vec<Part> {
     {
         all[1].1 = Some(packets::run);
         all[2].1 = Some(merges::run);
+    }
+    #[cfg(feature = "engines")]
+    {
+        all[3].1 = Some(capture::run);
     }
     all
 }
@@ -65,6 +70,7 @@ fn main() {
             "graph" => graph::sample(),
             "packets" => packets::sample(),
             "merge" => merges::sample(),
+            "capture" => capture::sample(),
             _ => usage(&format!("no sample of {part}")),
         }
         return;

@@ -174,7 +174,7 @@ impl Capture {
         self.term_done = false;
     }
 
-    fn run(&self, slots: u64, rng: &mut ChaCha8Rng) -> (u64, bool, Vec<Node>, MetricsCollector, u64) {
+    pub fn run(&self, slots: u64, rng: &mut ChaCha8Rng) -> (u64, bool, Vec<Node>, MetricsCollector, u64) {
         let mut nodes = self.nodes.clone();
         let mut metrics = self.metrics.clone();
         let mut next_row = self.next_row;

@@ -1,6 +1,6 @@
 -- What is left of a round that writes its rows: the loop's invariant, and one law for each of its needs. Assumes nothing.
 use mathlib.Core.Bool.{true, false}
-use mathlib.Core.List.{List, [], _++_}
+use mathlib.Core.List.{List, [], _∷_, _++_}
 use mathlib.Core.Path.{_≡_, refl, sym, ap, _∙_}
 use Prim.Native.Nat.{ℕ, _+_, _-_, _≤_, _<_}
 use native.Mathlib.Omega.{arith}
@@ -14,6 +14,11 @@ use Rattle.engines.specs.Rows.{isDue, cells, rowOf, putRow}
 use Rattle.engines.specs.declared.rows.Row.{Row}
 use Rattle.engines.specs.declared.capture.CeRound.{CeRound}
 use Rattle.engines.specs.declared.capture.CeState.{CeState}
+
+-- no rows leave the buffer
+pub no-rows : (rows l : List ℕ) (at : ℕ) → 0 ≡ length l → rows ≡ sets rows at l
+no-rows rows [] at e = refl
+no-rows rows (x ∷ l) at e = absurd (omega arith)
 
 -- k slots are left from t on, and `at` numbers of `rows` are used; the round is to end at v, with `final` in the buffer
 pub record Left (ws links : List ℕ) (conf : CeRound) (v : CeState) (final : List ℕ) (k : ℕ) (t : CeState) (at : ℕ) (rows : List ℕ) : Type 0 where
@@ -51,6 +56,16 @@ module _ (ws links : List ℕ) (conf : CeRound) where
 
     pub left-none : k ≤ 0 → (t ≡ v) × (rows ≡ final)
     left-none h = (runs-none _ _ h (l .run), rw (told-none _ _ _ t h) at (l .rest))
+
+    -- where the rows end does not move
+    pub left-end : {b t′ : CeState} {at′ end : ℕ} → 0 < k → over t ≡ false → b ≡ begun conf t → at′ ≡ at + length (rowsDue conf b) → t′ ≡ finished ws links conf b
+        → at + length (rowsOf ws links conf k t) ≡ end → at′ + length (rowsOf ws links conf (k - 1) t′) ≡ end
+    left-end {b} h s e w et g =
+        rw (w, et) (omega (arith, g, ap length (split t h s e), length-append (rowsDue conf b) (rowsOf ws links conf (k - 1) (finished ws links conf b))))
+
+    -- behind the last row the buffer is as it is to be
+    pub left-written : {end : ℕ} → at + length (rowsOf ws links conf k t) ≡ end → end ≤ at → rows ≡ final
+    left-written g h = no-rows rows (rowsOf ws links conf k t) at (omega (arith, g, h)) ∙ l .rest
 
     -- the buffer keeps its length
     pub left-length : length rows ≡ length final

@@ -1,7 +1,7 @@
 -- Each way out of a capture round, told from what its tests found. Assumes nothing.
 use mathlib.Core.Path.{_≡_, refl, sym, ap, _∙_}
 use mathlib.Core.Bool.{Bool, true, false}
-use mathlib.Core.List.{List, [], _∷_}
+use mathlib.Core.List.{List}
 use Prim.Native.Nat.{ℕ, _+_, _*_, _/_, _≤_, _<_}
 use native.Mathlib.Omega.{arith}
 use lib.Dec.{eqb, ltb}
@@ -9,15 +9,11 @@ use lib.ListN.{length}
 use lib.Seq.{sets}
 use borrow.Author.Tests.{le-leb, lt-leb}
 use Rattle.loops.specs.Runs.{runs}
+use Rattle.engines.proofs.Recording.{no-rows}
 use Rattle.engines.specs.Capture.{slotOf, over, rowsOf, startOf, afterRound, refusalOf, answerOf, bufferOf}
 use Rattle.engines.specs.declared.capture.CeRound.{CeRound}
 use Rattle.engines.specs.declared.capture.CeState.{CeState}
 use Rattle.engines.specs.declared.capture.CeAnswer.{CeAnswer}
-
--- no row due leaves the buffer
-no-rows : (rows l : List ℕ) (at : ℕ) → 0 ≡ length l → rows ≡ sets rows at l
-no-rows rows [] at e = refl
-no-rows rows (x ∷ l) at e = absurd (omega arith)
 
 module _ (ws links rows : List ℕ) (used : ℕ) (conf : CeRound) (c : CeState) (initiator cursor k : ℕ) where
   -- what a round owes: its answer, and the buffer

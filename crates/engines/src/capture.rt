@@ -168,9 +168,9 @@ fn dry_run(words: &[u64], links: &[u64; 64], conf: CeRound, c: CeState, k: u64) 
         if d.ended {
             return CeRun { state: d, due };
         }
-        let b = begin(conf, d);
-        due = due_after(due, b);
-        d = finish(words, links, conf, b);
+        let ticked = begin(conf, d);
+        due = due_after(due, ticked);
+        d = finish(words, links, conf, ticked);
         left -= 1;
     }
     CeRun { state: d, due }
@@ -191,32 +191,37 @@ fn put_due(rows: &mut [u64], used: usize, conf: CeRound, c: CeState) -> usize
     used
 }
 
-// The round, with its rows written behind the numbers already used.
+// The round again, for its rows alone: they are written behind the numbers already used, and end where they are known to end. Slots behind the last
+// row are not run again.
 fn record_run(
     words: &[u64],
     links: &[u64; 64],
     rows: &mut [u64],
     used: usize,
+    end: usize,
     conf: CeRound,
     c: CeState,
     k: u64,
-) -> CeState
-    requires { ⌜ used + length (rowsOf (now words) (now links) conf k c) ≤ length (now rows) ⌝ }
-    ensures { λ r. ⌜ (r ≡ runs over (slotOf (now (words .entry)) (now (links .entry)) conf) k c) × (now (rows .exit) ≡ sets (now (rows .entry)) used (rowsOf (now (words .entry)) (now (links .entry)) conf k c)) ⌝ }
+)
+    requires { ⌜ used + length (rowsOf (now words) (now links) conf k c) ≡ end ⌝ }
+    requires { ⌜ end ≤ length (now rows) ⌝ }
+    ensures { λ _. ⌜ now (rows .exit) ≡ sets (now (rows .entry)) used (rowsOf (now (words .entry)) (now (links .entry)) conf k c) ⌝ }
 {
     let mut d = c;
     let mut left = k;
     let mut at = used;
     while 0 < left {
         if d.ended {
-            return d;
+            return;
+        }
+        if end <= at {
+            return;
         }
         let b = begin(conf, d);
         at = put_due(rows, at, conf, b);
         d = finish(words, links, conf, b);
         left -= 1;
     }
-    d
 }
 
 // ---- the round
@@ -234,21 +239,16 @@ fn start(conf: CeRound, c: CeState, initiator: usize, cursor: usize) -> CeState
 {
     let voting = conf.voting;
     let nodes = c.nodes;
-    let held = c.held;
-    let metrics = c.metrics;
-    CeState {
-        nodes: turns::start_capture(nodes, voting.n, initiator, c.slot),
-        held,
-        slot: c.slot,
-        next_row: c.next_row,
-        bytes_sent: c.bytes_sent,
-        draw: Draw {
-            at: cursor,
-            short: false,
-        },
-        metrics,
-        ended: false,
-    }
+    let mut d = c;
+    let started = turns::start_capture(nodes, voting.n, initiator, c.slot);
+    let draw = Draw {
+        at: cursor,
+        short: false,
+    };
+    d.nodes = started;
+    d.draw = draw;
+    d.ended = false;
+    d
 }
 
 // Whether k slots more would pass slot 2^32 - 1. The difference stands for the sum, which could wrap.
@@ -283,7 +283,7 @@ fn refuse(refusal: u64, c: CeState, used: usize) -> CeAnswer
 
 // A round of at most k slots, its rows written behind the rows already used. 15: its full length would pass the last slot; 16: it draws
 // more words than there are behind the cursor; 17: its rows do not fit. A refused round changes nothing. The rows due are counted first, and the
-// round is run again only if there are any.
+// round is run again only for them.
 pub fn run_ce_round(
     words: &[u64],
     links: &[u64; 64],
@@ -323,10 +323,10 @@ pub fn run_ce_round(
         };
     }
     let at = used * 5;
-    let t = record_run(words, links, rows, at, conf, s, k);
+    record_run(words, links, rows, at, at + due * 5, conf, s, k);
     CeAnswer {
         refusal: 0,
-        state: t,
+        state: e,
         used: used + due,
     }
 }
