@@ -4,6 +4,7 @@ mod graph;
 mod merges;
 mod oracle;
 mod packets;
+mod pipeline;
 mod prng;
 mod selftest;
 mod tally;
@@ -22,7 +23,7 @@ type Part = (&'static str, Option<fn(&Options) -> Tally>);
 
 fn parts() -> Vec<Part> {
     #[allow(unused_mut, clippy::vec_init_then_push)]
-    let mut all: Vec<Part> = vec![("graph", None), ("packets", None), ("merge", None)];
+    let mut all: Vec<Part> = vec![("graph", None), ("packets", None), ("merge", None), ("pipeline", None)];
     #[cfg(feature = "graph")]
     {
         all[0].1 = Some(graph::run);
@@ -31,6 +32,10 @@ fn parts() -> Vec<Part> {
     {
         all[1].1 = Some(packets::run);
         all[2].1 = Some(merges::run);
+    }
+    #[cfg(feature = "pipeline")]
+    {
+        all[3].1 = Some(pipeline::run);
     }
     all
 }
@@ -65,6 +70,7 @@ fn main() {
             "graph" => graph::sample(),
             "packets" => packets::sample(),
             "merge" => merges::sample(),
+            "pipeline" => pipeline::sample(),
             _ => usage(&format!("no sample of {part}")),
         }
         return;
