@@ -12,13 +12,3 @@ pub mod Telling
 pub mod Recording
 pub mod RowCounts
 pub mod Settling
-pub mod Joining
-pub mod Flooding
-pub mod Taking
-pub mod Recorded
-pub mod Sums
-pub mod Growth
-pub mod Rounding
-pub mod Logs
-pub mod Totals
-pub mod PipelineCases

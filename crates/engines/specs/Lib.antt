@@ -10,7 +10,3 @@ pub mod Turns
 pub mod Cases
 pub mod Ce
 pub mod Capture
-pub mod Flood
-pub mod Pending
-pub mod Pipeline
-pub mod Round

@@ -1,0 +1,10 @@
+pub mod Joining
+pub mod Flooding
+pub mod Taking
+pub mod Recorded
+pub mod Sums
+pub mod Growth
+pub mod Rounding
+pub mod Logs
+pub mod Totals
+pub mod PipelineCases

@@ -1,0 +1,133 @@
+-- Document 01's pipeline cases, computed over the rules. Assumes nothing.
+use Prim.Native.Nat.{ℕ, _+_}
+use mathlib.Core.Bool.{Bool, true, false}
+use mathlib.Core.List.{List, [], _∷_}
+use mathlib.Core.Path.{_≡_, refl}
+use lib.ListN.{getD, replicate}
+use lib.Ieee.{binary64, ofBits, ofFields, eq, lt, div, ofInt, round, units, odd, span, climb, size}
+use Rattle.loops.specs.Upto.{upto}
+use Rattle.loops.specs.Downto.{downto}
+use Rattle.loops.specs.Runs.{go}
+use Rattle.marks.specs.Marks.{marks, allOf, countOf, marksOf}
+use Rattle.packets.specs.Packets.{pipelineText, bitmapText, dataText, limits}
+use Rattle.texts.specs.Decimal.{decimal, decimalF}
+use Rattle.texts.specs.Readers.{listText, itemsText}
+use Rattle.engines.specs.Nodes.{noNode, resetRound, ticked, tickAt, tickedAll, listens, floods, sleeps, setsOf}
+use Rattle.pipeline.specs.Pending.{noEntry, nackOf, joinMarks, commonMarks, withoutMark, loggedAt, loggedOf, outcomeAt, outcomeOf, pushed, finalizeTx, unanimousOf, openTx, votesAt, mergeVotes, mergeAbort, gapAt, gapOf, voteOf, isJudged, judgeAt, judged, fastOf, abortAll, ownVote}
+use Rattle.pipeline.specs.Pipeline.{noState, dataOf, packetOf, samePacket, recordTx, isFresh, beginTx, recordDue, recordJudged, abortOf, knownVotes, roundPacket, prepareRound, isNew, hearNew, mergeRound, recordAborts, takeUp, isAnswer, answerNack, processOne, partsOf, processAt, processAll, shorterAt, shortestLog, progressAt, progressAll, stopsAt}
+use Rattle.pipeline.specs.Round.{newState, newPipeline, startDraw, runRound, roundAnswer, deliverAll, isCovered, coverAt, coveredOf, initiatorOf, preparing, floodConf, floodFrom, closeRound, floodOf}
+use Rattle.engines.specs.Rows.{isDue, nextRow, rowsRefused}
+use Rattle.engines.specs.Words.{nextOf, unitOf, lostOf}
+use Rattle.engines.specs.Marked.{overMarks, withMark}
+use Rattle.pipeline.specs.Flood.{framed, hearAt, hearersOf, sendAt, floodPlan, afterFlood, afterListen, nextNode, turnAt, turnedAll, nobodyFloods, sentAfter, dueAfter, floodSlot, resetAt, resetAll, floodStart, floodRound}
+use Rattle.engines.specs.declared.node.Node.{Node}
+use Rattle.engines.specs.declared.node.NodeState.the-variants.{Listen, Flood, Sleep}
+use Rattle.engines.specs.declared.settings.Settings.{Settings}
+use Rattle.pipeline.specs.declared.two_pc_pipeline.TxLog.{TxLog}
+use Rattle.pipeline.specs.declared.two_pc_pipeline.NodeTwoPcState.{NodeTwoPcState}
+use Rattle.pipeline.specs.declared.two_pc_pipeline.RoundPacket.{RoundPacket}
+use Rattle.packets.specs.declared.TwoPcPhase.the-variants.{Prepare}
+use Rattle.pipeline.specs.declared.pipeline.PipelineConf.{PipelineConf}
+use Rattle.pipeline.specs.declared.pipeline.Pipeline.{Pipeline}
+use Rattle.pipeline.specs.declared.pipeline.RoundRun.{RoundRun}
+
+-- no loss, abort probability 0, one repeat
+abbrev pub plain : Settings
+plain =
+    record {
+      «loss_rate» = ofBits binary64 0;
+      «abort_probability» = ofBits binary64 0;
+      seed = 0;
+      «listen_timeout» = 0;
+      «flood_repeats» = 1;
+      «round_slots» = 0;
+      «slots_given» = false;
+    }
+
+-- Mesh of 2, T = 0, repeats 1: the full length is 3.
+abbrev pub mesh2 : PipelineConf
+mesh2 = record { n = 2; links = 2 ∷ 1 ∷ replicate 62 0; settings = plain; txs = 0; interval = 4294967295; bound = 4294967295; length = 3 }
+
+module _ (p : Pipeline) where
+  abbrev pub node : ℕ → Node
+  node i = getD (p .at) i noNode
+
+  -- slot, listen, flood and sleep counts of the first two positions together, covered, bytes sent, round
+  abbrev pub shown : List ℕ
+  shown =
+      p .slot
+      ∷ (node 0 .«slots_listen» + node 1 .«slots_listen»)
+      ∷ (node 0 .«slots_flood» + node 1 .«slots_flood»)
+      ∷ (node 0 .«slots_sleep» + node 1 .«slots_sleep»)
+      ∷ p .metrics .«flood_nodes_covered»
+      ∷ p .sent
+      ∷ p .round
+      ∷ []
+
+-- mesh of 2, T = 0, repeats 1: two slots, listen 1, flood 2, sleep 1, covered 2, 176 bytes twice, stopped in round 0
+pub mesh-of-two : (shown (runRound [] mesh2 newPipeline (startDraw 0) .pipe) ≡ 2 ∷ 1 ∷ 2 ∷ 1 ∷ 2 ∷ 352 ∷ 0 ∷ []) × (runRound [] mesh2 newPipeline (startDraw 0) .pipe .stop ≡ true)
+unfolding resetRound ticked tickAt tickedAll listens floods sleeps setsOf isDue nextRow rowsRefused nextOf unitOf lostOf overMarks withMark framed hearAt hearersOf sendAt floodPlan afterFlood afterListen nextNode turnAt turnedAll nobodyFloods sentAfter dueAfter floodSlot resetAt resetAll floodStart floodRound joinMarks commonMarks withoutMark loggedAt loggedOf outcomeAt outcomeOf pushed finalizeTx unanimousOf openTx votesAt mergeVotes mergeAbort gapAt gapOf nackOf voteOf isJudged judgeAt judged fastOf abortAll ownVote dataOf packetOf samePacket recordTx isFresh beginTx recordDue recordJudged abortOf knownVotes roundPacket prepareRound isNew hearNew mergeRound recordAborts takeUp isAnswer answerNack processOne partsOf processAt processAll shorterAt shortestLog progressAt progressAll stopsAt deliverAll isCovered coverAt coveredOf initiatorOf preparing floodConf floodFrom closeRound floodOf runRound newPipeline upto downto go marks allOf countOf marksOf pipelineText bitmapText dataText limits decimal decimalF listText itemsText eq lt div ofInt round units odd span climb size ofBits ofFields
+mesh-of-two = (refl, refl)
+
+-- Line of 3, T = 1, repeats 1, round slots 1: position 1 is flooding at the end and takes no part.
+abbrev pub line3 : PipelineConf
+line3 = record { n = 3; links = 2 ∷ 5 ∷ 2 ∷ replicate 61 0; settings = plain; txs = 1; interval = 4294967295; bound = 4294967295; length = 1 }
+
+abbrev pub shortRound : Pipeline
+shortRound = runRound (18446744073709551615 ∷ []) line3 newPipeline (startDraw 0) .pipe
+
+pub line-of-three : (node shortRound 0 .state ≡ Sleep) × (node shortRound 1 .state ≡ Flood) × (shortRound .holding ≡ 1) × (getD (shortRound .states) 0 noState .pending ≡ 1) × (getD (shortRound .states) 1 noState .pending ≡ 0)
+unfolding resetRound ticked tickAt tickedAll listens floods sleeps setsOf isDue nextRow rowsRefused nextOf unitOf lostOf overMarks withMark framed hearAt hearersOf sendAt floodPlan afterFlood afterListen nextNode turnAt turnedAll nobodyFloods sentAfter dueAfter floodSlot resetAt resetAll floodStart floodRound joinMarks commonMarks withoutMark loggedAt loggedOf outcomeAt outcomeOf pushed finalizeTx unanimousOf openTx votesAt mergeVotes mergeAbort gapAt gapOf nackOf voteOf isJudged judgeAt judged fastOf abortAll ownVote dataOf packetOf samePacket recordTx isFresh beginTx recordDue recordJudged abortOf knownVotes roundPacket prepareRound isNew hearNew mergeRound recordAborts takeUp isAnswer answerNack processOne partsOf processAt processAll shorterAt shortestLog progressAt progressAll stopsAt deliverAll isCovered coverAt coveredOf initiatorOf preparing floodConf floodFrom closeRound floodOf runRound newPipeline upto downto go marks allOf countOf marksOf pipelineText bitmapText dataText limits decimal decimalF listText itemsText eq lt div ofInt round units odd span climb size ofBits ofFields
+line-of-three = (refl, refl, refl, refl, refl)
+
+-- Nack 0 means none: whoever lacks transaction 0 asks for nothing, even if it lacks transaction 1 as well; whoever has 0 and lacks 1 asks for 1.
+abbrev pub hasFirst : NodeTwoPcState
+hasFirst = record { log = record { len = 1; entries = replicate 64 noEntry }; pending = 0; aborts = 0; votes = replicate 64 0 }
+
+pub no-nack : (nackOf 2 newState ≡ 0) × (nackOf 2 hasFirst ≡ 1)
+unfolding nackOf gapOf gapAt joinMarks loggedOf loggedAt withMark upto marks
+no-nack = (refl, refl)
+
+-- Every packet of a pipeline room is in Prepare: it gives no position a phase that could be Committed or Aborted.
+pub in-prepare : (n : ℕ) (q : RoundPacket) → packetOf n q .state ≡ Prepare
+unfolding packetOf
+in-prepare n q = refl
+
+-- The Rust's answer on a line of 2 with T = 1 and loss 1/2: frames are lost such that position 0 logs Aborted in round 2 and
+-- position 1, in the same round, Committed; 899 bytes, all five words drawn, and the room stops.
+abbrev pub mixed : PipelineConf
+mixed =
+    record {
+      n = 2;
+      links = 2 ∷ 1 ∷ replicate 62 0;
+      settings =
+          record {
+            «loss_rate» = ofBits binary64 0x3FE0_0000_0000_0000;
+            «abort_probability» = ofBits binary64 0;
+            seed = 0;
+            «listen_timeout» = 0;
+            «flood_repeats» = 1;
+            «round_slots» = 0;
+            «slots_given» = false;
+          };
+      txs = 1;
+      interval = 4294967295;
+      bound = 4294967295;
+      length = 3;
+    }
+
+abbrev pub mixedWords : List ℕ
+mixedWords = 18446744073709551615 ∷ 18446744073709551615 ∷ 0 ∷ 0 ∷ 18446744073709551615 ∷ []
+
+abbrev pub again : RoundRun → RoundRun
+again x = runRound mixedWords mixed (x .pipe) (x .draw)
+
+abbrev pub mixedEnd : RoundRun
+mixedEnd = again (again (runRound mixedWords mixed newPipeline (startDraw 0)))
+
+abbrev pub logAt : ℕ → TxLog
+logAt i = getD (mixedEnd .pipe .states) i noState .log
+
+pub opposite-outcomes : (mixedEnd .pipe .sent ≡ 899) × (mixedEnd .pipe .stop ≡ true) × (mixedEnd .draw .at ≡ 5) × (mixedEnd .draw .short ≡ false) × (logAt 0 .len ≡ 1) × (getD (logAt 0 .entries) 0 noEntry .committed ≡ false) × (logAt 1 .len ≡ 1) × (getD (logAt 1 .entries) 0 noEntry .committed ≡ true)
+unfolding resetRound ticked tickAt tickedAll listens floods sleeps setsOf isDue nextRow rowsRefused nextOf unitOf lostOf overMarks withMark framed hearAt hearersOf sendAt floodPlan afterFlood afterListen nextNode turnAt turnedAll nobodyFloods sentAfter dueAfter floodSlot resetAt resetAll floodStart floodRound joinMarks commonMarks withoutMark loggedAt loggedOf outcomeAt outcomeOf pushed finalizeTx unanimousOf openTx votesAt mergeVotes mergeAbort gapAt gapOf nackOf voteOf isJudged judgeAt judged fastOf abortAll ownVote dataOf packetOf samePacket recordTx isFresh beginTx recordDue recordJudged abortOf knownVotes roundPacket prepareRound isNew hearNew mergeRound recordAborts takeUp isAnswer answerNack processOne partsOf processAt processAll shorterAt shortestLog progressAt progressAll stopsAt deliverAll isCovered coverAt coveredOf initiatorOf preparing floodConf floodFrom closeRound floodOf runRound newPipeline upto downto go marks allOf countOf marksOf pipelineText bitmapText dataText limits decimal decimalF listText itemsText eq lt div ofInt round units odd span climb size ofBits ofFields
+opposite-outcomes = (refl, refl, refl, refl, refl, refl, refl, refl)

@@ -1,0 +1,35 @@
+use native.Mathlib.Omega.{arith}
+use Prim.Native.Nat.{_≤_, _<_, _-_, _+_, _^_}
+use mathlib.Core.Path.{_≡_, refl, sym, ap, _∙_}
+use Rattle.marks.specs.Marks.{countOf}
+use Rattle.marks.specs.Sets.{lowest-lt}
+use Rattle.engines.specs.Marked.{overMarks, withMark}
+use Rattle.engines.proofs.Marking.{without, over-less, over-turn, over-none, with-is}
+use Rattle.pipeline.specs.Pending.{abortAt, abortAll}
+use borrow.Author.Needs.{needs}
+use Rattle.pipeline.proofs.pending.abort_all.Statement.{statement}
+use Rattle.pipeline.proofs.pending.abort_all.Tie as tie
+
+abbrev Inv-loop : tie.InvT-loop
+Inv-loop fast q₀ left₀ q left = (left < 2 ^ 64) × (overMarks left abortAt q ≡ overMarks fast abortAt q₀)
+
+abbrev μ-loop : tie.MeasureT-loop
+μ-loop fast q₀ left₀ q left = countOf left 64
+
+returns : tie.Need-returns Inv-loop μ-loop
+unfolding abortAll
+returns c = over-none _ (c .loop-test .left) (c .before .loop .inv .1)
+
+pub abort-all-spec : {M : Type 1} → statement M
+abort-all-spec =
+    tie.close
+    (tie.spec
+    Inv-loop
+    μ-loop
+    (λ c. (omega arith, refl))
+    (λ c κs. search needs)
+    (λ c κs. search needs)
+    (λ c κs. search needs)
+    (λ c. over-less (without _ _ _ (c .before .before .before .before .loop .inv .0) (c .before .before .before .loop-test .taken) (c .before .before .lowest-mark .ensures) (c .without-mark .ensures)))
+    (λ c. (omega arith, over-turn _ (without _ _ _ (c .before .before .before .before .loop .inv .0) (c .before .before .before .loop-test .taken) (c .before .before .lowest-mark .ensures) (c .without-mark .ensures)) (c .before .finalize-tx .ensures) (c .before .before .before .before .loop .inv .1)))
+    returns)

@@ -1,0 +1,25 @@
+use mathlib.Core.Path.{_≡_, refl, sym, ap, _∙_}
+use borrow.Author.Tests.{lt-ltb, le-ltb, le-leb, lt-leb, eq-eqb, ne-eqb, not-true, not-false}
+use Rattle.pipeline.specs.Pending.{gapAt}
+use borrow.Author.Needs.{needs}
+use Rattle.pipeline.proofs.pending.gap_at.Statement.{statement}
+use Rattle.pipeline.proofs.pending.gap_at.Tie as tie
+
+returns : tie.Need-returns
+unfolding gapAt
+returns c = rw (ne-eqb _ _ (c .if1 .taken))
+
+returns-2 : tie.Need-returns-2
+unfolding gapAt
+returns-2 c = rw (eq-eqb _ _ (c .before .before .if1 .left), sym (c .before .is-marked .ensures) ∙ c .if2 .taken)
+
+returns-3 : tie.Need-returns-3
+unfolding gapAt
+returns-3 c = rw (eq-eqb _ _ (c .before .before .if1 .left), sym (c .before .is-marked .ensures) ∙ c .if2 .left)
+
+pub gap-at-spec : {M : Type 1} → statement M
+gap-at-spec = tie.close (tie.spec
+    returns
+    (λ c κs. search needs)
+    returns-2
+    returns-3)

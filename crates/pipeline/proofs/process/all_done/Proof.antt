@@ -1,0 +1,9 @@
+use borrow.Author.Tests.{lt-ltb, le-ltb, le-leb, lt-leb, eq-eqb, ne-eqb, not-true, not-false}
+use borrow.Author.Needs.{needs}
+use Rattle.pipeline.proofs.process.all_done.Statement.{statement}
+use Rattle.pipeline.proofs.process.all_done.Tie as tie
+
+pub all-done-spec : {M : Type 1} → statement M
+all-done-spec = tie.close (tie.spec
+    (λ c. rw (lt-leb _ _ (c .if1 .taken)))
+    (λ c. rw (le-leb _ _ (c .if1 .left))))

@@ -1,0 +1,21 @@
+use native.Mathlib.Omega.{arith}
+use borrow.Author.Tests.{lt-ltb, le-ltb, le-leb, lt-leb, eq-eqb, ne-eqb, not-true, not-false}
+use Rattle.pipeline.specs.Pipeline.{isAnswer}
+use borrow.Author.Needs.{needs}
+use Rattle.pipeline.proofs.process.is_answer.Statement.{statement}
+use Rattle.pipeline.proofs.process.is_answer.Tie as tie
+
+returns : tie.Need-returns
+unfolding isAnswer
+returns c = rw (c .if1 .taken)
+
+returns-2 : tie.Need-returns-2
+unfolding isAnswer
+returns-2 c = rw (lt-ltb 0 (c .before .before .before .before .args .nack) (omega arith), ← c .before .logged .ensures) (c .is-marked .ensures)
+
+pub is-answer-spec : {M : Type 1} → statement M
+is-answer-spec = tie.close (tie.spec
+    returns
+    (λ c κs. search needs)
+    (λ c κs. search needs)
+    returns-2)

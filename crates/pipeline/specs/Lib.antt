@@ -1,0 +1,4 @@
+pub mod Flood
+pub mod Pending
+pub mod Pipeline
+pub mod Round

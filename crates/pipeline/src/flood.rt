@@ -1,0 +1,349 @@
+// Ported from phy/ci.rs: the identical flood, slot by slot. What is flooded is the same for everybody, so only its length counts here.
+ghost use mathlib.Core.Path.{_≡_};
+ghost use Prim.Native.Nat.{_<_};
+ghost use Rattle.engines.specs.Marked.{overMarks};
+ghost use Rattle.pipeline.specs.Flood.{floodLength, framed, hearAt, hearersOf, sendAt, floodPlan, inState, afterFlood, afterListen, nextNode, turnedAll, dueAfter, nobodyFloods, sentAfter, floodSlot, resetAll, floodStart, floodRound, rowAt, writtenRound, Writing};
+use engines::limits;
+use engines::node;
+use engines::node::Node;
+use engines::node::NodeState;
+use engines::node::StateSets;
+use engines::rows;
+use engines::words;
+use engines::words::Draw;
+use graph::sets;
+use packets::votes;
+
+// What no slot of a round changes: positions, repeats, loss, the interval of the rows, and the length of the packet's text.
+pub struct FloodConf {
+    pub n: usize,
+    pub repeats: u32,
+    pub loss: f64,
+    pub interval: u64,
+    pub bytes: u64,
+}
+
+// Who receives in a slot, and what that draws and counts.
+pub struct FloodPlan {
+    pub received: u64,
+    pub draw: Draw,
+    pub attempts: u64,
+    pub success: u64,
+}
+
+// A round between two slots: the positions, the slot, the next row slot, the cursor, frames tried and received, bytes sent, the
+// rows due so far, and whether nobody will flood.
+pub struct FloodRun {
+    pub at: [Node; 64],
+    pub slot: u64,
+    pub next: u64,
+    pub draw: Draw,
+    pub attempts: u64,
+    pub success: u64,
+    pub sent: u64,
+    pub due: u64,
+    pub over: bool,
+}
+
+// How many slots a round may take. A diameter lies below 64, and a longer one is taken for 64: so the product cannot wrap.
+pub fn flood_length(given: bool, slots: u64, diameter: usize, repeats: u32) -> u64
+    ensures { λ r. ⌜ r ≡ floodLength given slots diameter repeats ⌝ }
+{
+    if given {
+        return slots;
+    }
+    let d = limits::at_most_64(diameter);
+    let long = (d as u64 + 2) * (repeats as u64);
+    if long < 3 {
+        return 3;
+    }
+    long
+}
+
+// A frame for neighbour j that arrives or is gone.
+fn frame(p: FloodPlan, j: usize, gone: bool, d: Draw) -> FloodPlan
+    ensures { λ r. ⌜ r ≡ framed j gone d p ⌝ }
+{
+    let attempts = std::num::wrapping_add_u64(p.attempts, 1);
+    if gone {
+        return FloodPlan {
+            received: p.received,
+            draw: d,
+            attempts,
+            success: p.success,
+        };
+    }
+    let received = sets::with_mark(p.received, j);
+    let success = std::num::wrapping_add_u64(p.success, 1);
+    FloodPlan {
+        received,
+        draw: d,
+        attempts,
+        success,
+    }
+}
+
+// A frame for neighbour j, with its draw unless the loss is 0.
+fn hear(words: &[u64], loss: f64, j: usize, p: FloodPlan) -> FloodPlan
+    ensures { λ r. ⌜ r ≡ hearAt (now (words .entry)) loss j p ⌝ }
+{
+    let d = p.draw;
+    if loss == 0.0 {
+        return frame(p, j, false, d);
+    }
+    let x = words::next(words, d);
+    let gone = words::lost(x.word, loss);
+    let e = x.draw;
+    frame(p, j, gone, e)
+}
+
+fn find_hearers(row: u64, listening: u64) -> u64
+    ensures { λ r. ⌜ r ≡ hearersOf row listening ⌝ }
+{
+    sets::intersection(row, listening)
+}
+
+// What one flooder sends to its hearers, the lowest first.
+fn send(words: &[u64], loss: f64, hearers: u64, p: FloodPlan) -> FloodPlan
+    ensures { λ r. ⌜ r ≡ overMarks hearers (hearAt (now (words .entry)) loss) p ⌝ }
+{
+    let mut q = p;
+    let mut left = hearers;
+    while left != 0 {
+        let j = sets::lowest_mark(left);
+        q = hear(words, loss, j, q);
+        left = sets::without_mark(left, j);
+    }
+    q
+}
+
+fn send_at(
+    words: &[u64],
+    loss: f64,
+    links: &[u64; 64],
+    listening: u64,
+    i: usize,
+    p: FloodPlan,
+) -> FloodPlan
+    requires { ⌜ i < 64 ⌝ }
+    ensures { λ r. ⌜ r ≡ sendAt (now (words .entry)) loss (now (links .entry)) listening i p ⌝ }
+{
+    let hearers = find_hearers(links[i], listening);
+    send(words, loss, hearers, p)
+}
+
+// The plan of a slot: all flooders, the lowest first. It takes every word that the slot takes.
+fn plan_flood(words: &[u64], loss: f64, links: &[u64; 64], s: StateSets, d: Draw) -> FloodPlan
+    ensures { λ r. ⌜ r ≡ floodPlan (now (words .entry)) loss (now (links .entry)) s d ⌝ }
+{
+    let mut p = FloodPlan {
+        received: 0,
+        draw: d,
+        attempts: 0,
+        success: 0,
+    };
+    let mut left = s.flooding;
+    while left != 0 {
+        let i = sets::lowest_mark(left);
+        p = send_at(words, loss, links, s.listening, i, p);
+        left = sets::without_mark(left, i);
+    }
+    p
+}
+
+fn with_state(v: Node, state: NodeState, flood_remaining: u32) -> Node
+    ensures { λ r. ⌜ r ≡ inState v state «flood_remaining» ⌝ }
+{
+    Node {
+        state,
+        flood_remaining,
+        last_progress_slot: v.last_progress_slot,
+        goal_reached: v.goal_reached,
+        progress_count: v.progress_count,
+        slots_listen: v.slots_listen,
+        slots_flood: v.slots_flood,
+        slots_sleep: v.slots_sleep,
+    }
+}
+
+// A flooder's next state. Where none is left, which only repeats 0 leads to, it sleeps as well: the count cannot fall below 0.
+fn flooded(v: Node) -> Node
+    ensures { λ r. ⌜ r ≡ afterFlood v ⌝ }
+{
+    if v.flood_remaining <= 1 {
+        return with_state(v, NodeState::Sleep, 0);
+    }
+    with_state(v, NodeState::Flood, v.flood_remaining - 1)
+}
+
+fn listened(v: Node, heard: bool, repeats: u32) -> Node
+    ensures { λ r. ⌜ r ≡ afterListen repeats heard v ⌝ }
+{
+    if heard {
+        return with_state(v, NodeState::Flood, repeats);
+    }
+    v
+}
+
+fn turn(v: Node, heard: bool, repeats: u32) -> Node
+    ensures { λ r. ⌜ r ≡ nextNode repeats heard v ⌝ }
+{
+    let s = v.state;
+    match s {
+        NodeState::Listen => listened(v, heard, repeats),
+        NodeState::Flood => flooded(v),
+        NodeState::Sleep => v,
+    }
+}
+
+// The next states of the first n positions.
+fn turn_all(at: [Node; 64], n: usize, received: u64, repeats: u32) -> [Node; 64]
+    ensures { λ r. ⌜ r ≡ turnedAll n repeats received at ⌝ }
+{
+    let count = limits::at_most_64(n);
+    let mut a = at;
+    let mut i: usize = 0;
+    while i < count {
+        let v = a[i];
+        let heard = sets::is_marked(received, i);
+        a[i] = turn(v, heard, repeats);
+        i += 1;
+    }
+    a
+}
+
+fn due_after(due: u64, next: u64, slot: u64) -> u64
+    ensures { λ r. ⌜ r ≡ dueAfter due next slot ⌝ }
+{
+    if rows::row_due(next, slot) {
+        return std::num::wrapping_add_u64(due, 1);
+    }
+    due
+}
+
+fn nobody_floods(at: [Node; 64], n: usize) -> bool
+    ensures { λ r. ⌜ r ≡ nobodyFloods n at ⌝ }
+{
+    let s = node::state_sets(at, n);
+    s.flooding == 0
+}
+
+// What every flooder's packet adds to the bytes sent.
+fn sent_after(sent: u64, flooding: u64, bytes: u64) -> u64
+    ensures { λ r. ⌜ r ≡ sentAfter sent flooding bytes ⌝ }
+{
+    let each = votes::wrapping_mul(sets::count_marks(flooding) as u64, bytes);
+    std::num::wrapping_add_u64(sent, each)
+}
+
+// One slot of a round.
+fn flood_slot(words: &[u64], links: &[u64; 64], conf: FloodConf, f: FloodRun) -> FloodRun
+    ensures { λ r. ⌜ r ≡ floodSlot (now (words .entry)) (now (links .entry)) conf f ⌝ }
+{
+    let at = f.at;
+    let ticked = node::tick_all(at, conf.n);
+    let s = node::state_sets(ticked, conf.n);
+    let d = f.draw;
+    let p = plan_flood(words, conf.loss, links, s, d);
+    let turned = turn_all(ticked, conf.n, p.received, conf.repeats);
+    let e = p.draw;
+    FloodRun {
+        at: turned,
+        slot: std::num::wrapping_add_u64(f.slot, 1),
+        next: rows::next_row(f.next, conf.interval, f.slot),
+        draw: e,
+        attempts: std::num::wrapping_add_u64(f.attempts, p.attempts),
+        success: std::num::wrapping_add_u64(f.success, p.success),
+        sent: sent_after(f.sent, s.flooding, conf.bytes),
+        due: due_after(f.due, f.next, f.slot),
+        over: nobody_floods(turned, conf.n),
+    }
+}
+
+// The slots of a round, without its rows.
+pub fn flood_slots(
+    words: &[u64],
+    links: &[u64; 64],
+    conf: FloodConf,
+    slots: u64,
+    f: FloodRun,
+) -> FloodRun
+    ensures { λ r. ⌜ r ≡ floodRound (now (words .entry)) (now (links .entry)) conf slots f ⌝ }
+{
+    let mut g = f;
+    let mut left = slots;
+    while 0 < left {
+        if g.over {
+            return g;
+        }
+        g = flood_slot(words, links, conf, g);
+        left -= 1;
+    }
+    g
+}
+
+fn reset_all(at: [Node; 64], n: usize) -> [Node; 64]
+    ensures { λ r. ⌜ r ≡ resetAll n at ⌝ }
+{
+    let count = limits::at_most_64(n);
+    let mut a = at;
+    let mut i: usize = 0;
+    while i < count {
+        let v = a[i];
+        a[i] = v.reset_round();
+        i += 1;
+    }
+    a
+}
+
+// Everybody listens but the initiator.
+pub fn start_flood(at: [Node; 64], n: usize, initiator: usize, repeats: u32) -> [Node; 64]
+    ensures { λ r. ⌜ r ≡ floodStart n initiator repeats at ⌝ }
+{
+    let mut a = reset_all(at, n);
+    if initiator >= 64 {
+        return a;
+    }
+    let v = a[initiator];
+    a[initiator] = with_state(v, NodeState::Flood, repeats);
+    a
+}
+
+// The row of the present slot, if one is due, behind the rows used.
+fn write_row(rows: &mut [u64], used: u64, conf: FloodConf, f: FloodRun)
+    ensures { λ _. ⌜ now (rows .exit) ≡ rowAt conf (now (rows .entry)) used f ⌝ }
+{
+    if !rows::row_due(f.next, f.slot) {
+        return;
+    }
+    let at = f.at;
+    let ticked = node::tick_all(at, conf.n);
+    let row = rows::take_snapshot(f.next, ticked, conf.n);
+    rows::put_behind(rows, used as usize, row);
+}
+
+// The slots of a round once more, for its rows alone: by then it is known that they fit.
+pub fn write_rows(
+    words: &[u64],
+    links: &[u64; 64],
+    conf: FloodConf,
+    slots: u64,
+    rows: &mut [u64],
+    used: usize,
+    f: FloodRun,
+)
+    ensures { λ _. ⌜ now (rows .exit) ≡ writtenRound (now (words .entry)) (now (links .entry)) conf slots (record { rows = now (rows .entry); used = used; run = f }) .rows ⌝ }
+{
+    let mut g = f;
+    let mut next = used as u64;
+    let mut left = slots;
+    while 0 < left {
+        if g.over {
+            return;
+        }
+        write_row(rows, next, conf, g);
+        next = due_after(next, g.next, g.slot);
+        g = flood_slot(words, links, conf, g);
+        left -= 1;
+    }
+}
