@@ -6,4 +6,5 @@ mod pending;
 pub mod pipeline;
 mod prepare;
 mod process;
+pub mod rounds;
 pub mod two_pc_pipeline;
