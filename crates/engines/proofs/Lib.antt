@@ -12,3 +12,4 @@ pub mod Telling
 pub mod Recording
 pub mod RowCounts
 pub mod Settling
+pub mod Storing

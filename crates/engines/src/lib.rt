@@ -5,6 +5,7 @@ pub mod ce;
 pub mod limits;
 pub mod metrics;
 pub mod node;
+pub mod numbers;
 pub mod plan;
 pub mod rows;
 pub mod settings;
