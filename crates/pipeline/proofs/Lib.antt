@@ -8,3 +8,5 @@ pub mod Rounding
 pub mod Logs
 pub mod Totals
 pub mod PipelineCases
+pub mod Playing
+pub mod Numbering

@@ -3,3 +3,4 @@ pub mod Pending
 pub mod Pipeline
 pub mod Round
 pub mod Play
+pub mod Console

@@ -1,4 +1,5 @@
 // The identical flood and the pipeline round. Part of the third layer; what both kinds of rounds are made of stands in `engines`.
+pub mod console;
 pub mod flood;
 mod ledger;
 mod packet;

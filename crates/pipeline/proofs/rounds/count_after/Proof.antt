@@ -1,21 +1,16 @@
+use borrow.Author.Tests.{eq-eqb, ne-eqb}
 use borrow.Author.Needs.{needs}
+use Rattle.pipeline.specs.Play.{countAfter}
 use Rattle.pipeline.proofs.rounds.count_after.Statement.{statement}
 use Rattle.pipeline.proofs.rounds.count_after.Tie as tie
-use Rattle.pipeline.proofs.rounds.count_after.Reads as reads
-use Rattle.pipeline.proofs.rounds.count_after.Lts as lts
-use Rattle.std.proofs.num.wrapping_add_u64.Reads as wrapping-add-u64-reads
 
--- src/rounds.rt:35:9
-wrapping-add-u64-requires : tie.Need-wrapping-add-u64-requires
-wrapping-add-u64-requires c κs = search needs
-
--- src/rounds.rt:35:9
 returns : tie.Need-returns
-returns c = search needs
+unfolding countAfter
+returns c = rw (eq-eqb _ _ (c .before .if1 .taken), c .wrapping-add-u64 .ensures)
 
--- src/rounds.rt:31:1
 returns-2 : tie.Need-returns-2
-returns-2 c = search needs
+unfolding countAfter
+returns-2 c = rw (ne-eqb _ _ (c .if1 .left))
 
 pub count-after-spec : {M : Type 1} → statement M
-count-after-spec = tie.close (tie.spec wrapping-add-u64-requires returns returns-2)
+count-after-spec = tie.close (tie.spec (λ c κs. search needs) returns returns-2)

@@ -1,51 +1,28 @@
+use mathlib.Core.Path.{_≡_, refl}
+use lib.ListN.{length}
 use borrow.Author.Needs.{needs}
+use Rattle.loops.specs.Runs.{runs, runs-none, runs-stop, runs-turn}
+use Rattle.pipeline.specs.Play.{isRefused, playRound, playRounds, Playing}
+use Rattle.pipeline.proofs.Playing.{refused-yes, refused-no}
 use Rattle.pipeline.proofs.rounds.play_rounds.Statement.{statement}
 use Rattle.pipeline.proofs.rounds.play_rounds.Tie as tie
-use Rattle.pipeline.proofs.rounds.play_rounds.Reads as reads
-use Rattle.pipeline.proofs.rounds.play_rounds.Lts as lts
-use Rattle.pipeline.proofs.rounds.play_round.Reads as play-round-reads
 
 abbrev Inv-loop : tie.InvT-loop
-Inv-loop words rows₀ conf rounds t₀ left₀ rows t left = ?
+Inv-loop words rows₀ conf rounds t₀ left₀ rows t left = (length rows ≡ length rows₀) × (runs isRefused (playRound words conf) left (record { rows = rows; played = t }) ≡ runs isRefused (playRound words conf) left₀ (record { rows = rows₀; played = t₀ }))
 
 abbrev μ-loop : tie.MeasureT-loop
-μ-loop words rows₀ conf rounds t₀ left₀ rows t left = ?
+μ-loop words rows₀ conf rounds t₀ left₀ rows t left = left
 
--- src/rounds.rt:74:5
-loop-holds : tie.Need-loop-holds Inv-loop μ-loop
-loop-holds c = search needs
-
--- src/rounds.rt:76:13
-same-length : tie.Need-same-length Inv-loop μ-loop
-same-length c = search needs
-
--- src/rounds.rt:76:13
 returns : tie.Need-returns Inv-loop μ-loop
-returns c = search needs
+unfolding playRounds
+returns c = runs-stop _ _ (c .before .before .loop-test .taken) (refused-yes _ (c .if1 .taken)) (c .before .before .before .loop .inv .1)
 
--- src/rounds.rt:78:9
-play-round-requires : tie.Need-play-round-requires Inv-loop μ-loop
-play-round-requires c κs = search needs
-
--- src/rounds.rt:79:9
-sub-left : tie.Need-sub-left Inv-loop μ-loop
-sub-left c = search needs
-
--- src/rounds.rt:74:5
-loop-less : tie.Need-loop-less Inv-loop μ-loop
-loop-less c = search needs
-
--- src/rounds.rt:74:5
-loop-again : tie.Need-loop-again Inv-loop μ-loop
-loop-again c = search needs
-
--- src/rounds.rt:63:1
-same-length-2 : tie.Need-same-length-2 Inv-loop μ-loop
-same-length-2 c = search needs
-
--- src/rounds.rt:63:1
 returns-2 : tie.Need-returns-2 Inv-loop μ-loop
-returns-2 c = search needs
+unfolding playRounds
+returns-2 c = runs-none _ _ (c .loop-test .left) (c .before .loop .inv .1)
+
+loop-again : tie.Need-loop-again Inv-loop μ-loop
+loop-again c = (search needs, runs-turn _ _ (c .before .before .before .before .before .before .loop-test .taken) (refused-no _ (c .before .before .before .before .if1 .left)) (c .before .before .play-round .ensures) (c .before .before .before .before .before .before .before .loop .inv .1))
 
 pub play-rounds-spec : {M : Type 1} → statement M
 play-rounds-spec =
@@ -53,12 +30,12 @@ play-rounds-spec =
     (tie.spec
     Inv-loop
     μ-loop
-    loop-holds
-    same-length
+    (λ c. (refl, refl))
+    (λ c. c .before .before .before .loop .inv .0)
     returns
-    play-round-requires
-    sub-left
-    loop-less
+    (λ c κs. search needs)
+    (λ c. search needs)
+    (λ c. search needs)
     loop-again
-    same-length-2
+    (λ c. c .before .loop .inv .0)
     returns-2)
