@@ -1,59 +1,52 @@
+use Rattle.pipeline.proofs.Numbering.{filled-whole}
+use Rattle.loops.specs.Table.{filled, filled-none, filled-turn, filled-all}
+use Prim.Native.Nat.{ℕ, _+_, _*_, _≤_, _-_}
+use native.Mathlib.Omega.{arith}
+use mathlib.Core.Path.{_≡_, refl, ap, _∙_}
+use Rattle.pipeline.specs.Console.{stateAt, statesAt}
 use borrow.Author.Needs.{needs}
 use Rattle.pipeline.proofs.console.states_of.Statement.{statement}
 use Rattle.pipeline.proofs.console.states_of.Tie as tie
-use Rattle.pipeline.proofs.console.states_of.Reads as reads
-use Rattle.pipeline.proofs.console.states_of.Lts as lts
-use Rattle.pipeline.proofs.console.state_of.Reads as state-of-reads
 
 abbrev Inv-loop : tie.InvT-loop
-Inv-loop xs a₀ i₀ a i = ?
+Inv-loop xs a₀ i₀ a i = (i ≤ 64) × (a ≡ filled (stateAt xs 0) 64 i (λ j. stateAt xs (789 + j * 131)))
 
 abbrev μ-loop : tie.MeasureT-loop
-μ-loop xs a₀ i₀ a i = ?
+μ-loop xs a₀ i₀ a i = 64 - i
 
--- src/console.rt:96:9
 state-of-requires : tie.Need-state-of-requires Inv-loop μ-loop
 state-of-requires c κs = search needs
 
--- src/console.rt:99:5
 loop-holds : tie.Need-loop-holds Inv-loop μ-loop
-loop-holds c = search needs
+loop-holds c = (omega arith, rw (c .state-of .ensures) (filled-none (stateAt (c .before .before .args .xs .now) 0) 64 _))
 
--- src/console.rt:100:35
 mul-state-of : tie.Need-mul-state-of Inv-loop μ-loop
 mul-state-of c = search needs
 
--- src/console.rt:100:29
 add-state-of : tie.Need-add-state-of Inv-loop μ-loop
 add-state-of c = search needs
 
--- src/console.rt:100:16
 state-of-requires-2 : tie.Need-state-of-requires-2 Inv-loop μ-loop
 state-of-requires-2 c κs = search needs
 
--- src/console.rt:100:9
 mul-a : tie.Need-mul-a Inv-loop μ-loop
 mul-a c = search needs
 
--- src/console.rt:100:9
 array-set-from-a : tie.Need-array-set-from-a Inv-loop μ-loop
 array-set-from-a c = search needs
 
--- src/console.rt:101:9
 add-i : tie.Need-add-i Inv-loop μ-loop
 add-i c = search needs
 
--- src/console.rt:99:5
 loop-less : tie.Need-loop-less Inv-loop μ-loop
 loop-less c = search needs
 
--- src/console.rt:99:5
 loop-again : tie.Need-loop-again Inv-loop μ-loop
-loop-again c = search needs
+loop-again c = (omega arith, filled-turn (stateAt (c .before .before .before .before .before .args .xs .now) 0) 64 _ (omega arith) (c .before .before .loop .inv .1) (c .state-of2 .ensures))
 
--- src/console.rt:93:1
 returns : tie.Need-returns Inv-loop μ-loop
-returns c = search needs
+unfolding statesAt
+returns c = filled-all (stateAt (c .before .before .before .before .args .xs .now) 0) 64 _ (c .before .loop .inv .0) (c .loop-test .left) (c .before .loop .inv .1) ∙ filled-whole _ _ _
 
 pub states-of-spec : {M : Type 1} → statement M
 states-of-spec =
