@@ -818,6 +818,8 @@ mod compared {
         length: u64,
         ours: Ours,
         theirs: PipelineRoom,
+        /// the refusal of the round that there is none of
+        last: u64,
     }
 
     fn size(c: &Case, rounds: u64) -> usize {
@@ -904,14 +906,17 @@ mod compared {
             let used = before.state[USED] as usize;
             if self.theirs.stopped || slot >= case.bound {
                 let what = if self.theirs.stopped { "14, stopped" } else { "14, bound of the room" };
+                self.last = 14;
                 self.refused(what, 14, &before, &Asked::of(case, length));
                 return false;
             }
             if slot + length > FOREVER {
+                self.last = 15;
                 self.refused("15, length of the room", 15, &before, &Asked::of(case, length));
                 return false;
             }
             if self.theirs.round().is_err() {
+                self.last = 16;
                 self.refused("16, where the Rust lacks a word", 16, &before, &Asked::of(case, length));
                 return false;
             }
@@ -1043,7 +1048,7 @@ mod compared {
         t.same("length of a flood", size(case, 0), || case.told(), &length, &case.length());
         let mut ours = Ours::open();
         ours.state[CURSOR] = case.cursor;
-        let mut x = Room { t, met, case, length, ours, theirs: case.open() };
+        let mut x = Room { t, met, case, length, ours, theirs: case.open(), last: 0 };
         x.met.add("rooms", 1);
         // a room that idles runs T + 1002 rounds: some do, the others are left
         let patience = 3 * (case.t + case.n()) as u64 + 20;
@@ -1059,17 +1064,8 @@ mod compared {
         if !ended {
             return;
         }
-        let slot = x.theirs.core.current_slot;
-        let by_itself = x.theirs.stopped || slot >= case.bound;
-        let last = if by_itself {
-            14
-        } else if slot + length > FOREVER {
-            15
-        } else {
-            16
-        };
-        x.at_once(last);
-        if by_itself {
+        x.at_once(x.last);
+        if x.last == 14 {
             x.own_run();
         }
     }
