@@ -1121,6 +1121,9 @@ mod compared {
         let mut whole = case.open();
         whole.run().unwrap();
         let rounds = whole.rounds;
+        // the Rust's side copies its words at the opening: none too many
+        let mut case = case;
+        case.words.truncate(whole.core.rng.cursor() as usize);
         let ask = Asked { rounds, ..Asked::of(&case, length) };
         let mut ours = || {
             let mut o = Ours::open();

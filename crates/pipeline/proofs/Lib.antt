@@ -1,3 +1,4 @@
+pub mod Judging
 pub mod Joining
 pub mod Flooding
 pub mod Taking
