@@ -360,7 +360,7 @@ fn opened(cursor: u64, used: u64) -> Played {
 }
 
 fn play(
-    words: &[u64; 4096],
+    words: &[u64],
     count: usize,
     rows: &mut [u64],
     buffer: usize,
@@ -368,7 +368,7 @@ fn play(
     start: Played,
     most: u64,
 ) -> Played {
-    if count > 4096 {
+    if count > words.len() {
         return start;
     }
     if buffer > rows.len() {
