@@ -11,3 +11,5 @@ pub mod Totals
 pub mod PipelineCases
 pub mod Playing
 pub mod Numbering
+pub mod Written
+pub mod Packing

@@ -4,12 +4,11 @@ use borrow.Author.Needs.{needs}
 use Rattle.pipeline.proofs.console.clock_numbers.Statement.{statement}
 use Rattle.pipeline.proofs.console.clock_numbers.Tie as tie
 
-cast-t4 : tie.Need-cast-t4
-cast-t4 c = search needs
-
 returns : tie.Need-returns
 unfolding clockNumbers
 returns c = refl
 
 pub clock-numbers-spec : {M : Type 1} → statement M
-clock-numbers-spec = tie.close (tie.spec cast-t4 returns)
+clock-numbers-spec = tie.close (tie.spec
+    (λ c. search needs)
+    returns)

@@ -3,12 +3,11 @@ use borrow.Author.Needs.{needs}
 use Rattle.pipeline.proofs.console.conf_of.Statement.{statement}
 use Rattle.pipeline.proofs.console.conf_of.Tie as tie
 
-words-of-requires : tie.Need-words-of-requires
-words-of-requires c κs = search needs
-
 returns : tie.Need-returns
 unfolding confBy
 returns c = rw (c .words-of .ensures)
 
 pub conf-of-spec : {M : Type 1} → statement M
-conf-of-spec = tie.close (tie.spec words-of-requires returns)
+conf-of-spec = tie.close (tie.spec
+    (λ c κs. search needs)
+    returns)

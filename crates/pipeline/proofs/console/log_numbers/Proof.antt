@@ -16,33 +16,6 @@ Inv-loop entries a₀ i₀ a i = (i ≤ 64) × (a ≡ filled 0 64 i (λ j. entry
 abbrev μ-loop : tie.MeasureT-loop
 μ-loop entries a₀ i₀ a i = 64 - i
 
-loop-holds : tie.Need-loop-holds Inv-loop μ-loop
-loop-holds c = (omega arith, filled-none 0 64 _)
-
-mul-e : tie.Need-mul-e Inv-loop μ-loop
-mul-e c = search needs
-
-array-copy-out-e : tie.Need-array-copy-out-e Inv-loop μ-loop
-array-copy-out-e c = search needs
-
-entry-number-requires : tie.Need-entry-number-requires Inv-loop μ-loop
-entry-number-requires c κs = search needs
-
-mul-a : tie.Need-mul-a Inv-loop μ-loop
-mul-a c = search needs
-
-array-write-a : tie.Need-array-write-a Inv-loop μ-loop
-array-write-a c = search needs
-
-add-i : tie.Need-add-i Inv-loop μ-loop
-add-i c = search needs
-
-loop-less : tie.Need-loop-less Inv-loop μ-loop
-loop-less c = search needs
-
-loop-again : tie.Need-loop-again Inv-loop μ-loop
-loop-again c = (omega arith, filled-turn 0 64 _ (omega arith) (c .before .before .before .loop .inv .1) (c .entry-number .ensures))
-
 returns : tie.Need-returns Inv-loop μ-loop
 unfolding logNumbers
 returns c = filled-all 0 64 _ (c .before .loop .inv .0) (c .loop-test .left) (c .before .loop .inv .1) ∙ filled-whole _ _ _
@@ -53,13 +26,13 @@ log-numbers-spec =
     (tie.spec
     Inv-loop
     μ-loop
-    loop-holds
-    mul-e
-    array-copy-out-e
-    entry-number-requires
-    mul-a
-    array-write-a
-    add-i
-    loop-less
-    loop-again
+    (λ c. (omega arith, filled-none 0 64 _))
+    (λ c. search needs)
+    (λ c. search needs)
+    (λ c κs. search needs)
+    (λ c. search needs)
+    (λ c. search needs)
+    (λ c. search needs)
+    (λ c. search needs)
+    (λ c. (omega arith, filled-turn 0 64 _ (omega arith) (c .before .before .before .loop .inv .1) (c .entry-number .ensures)))
     returns)

@@ -15,33 +15,9 @@ Inv-loop xs₀ payloads i₀ xs i = (i ≤ 64) × (xs ≡ upto i (packetTo paylo
 abbrev μ-loop : tie.MeasureT-loop
 μ-loop xs₀ payloads i₀ xs i = 64 - i
 
-loop-holds : tie.Need-loop-holds Inv-loop μ-loop
-loop-holds c = (omega arith, upto-none _ _)
-
-mul-q : tie.Need-mul-q Inv-loop μ-loop
-mul-q c = search needs
-
-array-copy-out-q : tie.Need-array-copy-out-q Inv-loop μ-loop
-array-copy-out-q c = search needs
-
-mul-put-packet : tie.Need-mul-put-packet Inv-loop μ-loop
-mul-put-packet c = search needs
-
-put-packet-requires : tie.Need-put-packet-requires Inv-loop μ-loop
-put-packet-requires c κs = search needs
-
-add-i : tie.Need-add-i Inv-loop μ-loop
-add-i c = search needs
-
-loop-less : tie.Need-loop-less Inv-loop μ-loop
-loop-less c = search needs
-
 loop-again : tie.Need-loop-again Inv-loop μ-loop
 unfolding packetTo
 loop-again c = (omega arith, upto-turn _ _ (c .before .before .before .before .before .before .loop .inv .1) (c .before .before .put-packet .ensures))
-
-same-length : tie.Need-same-length Inv-loop μ-loop
-same-length c = ap length (c .before .loop .inv .1) ∙ upto-keeps length _ _ _ (packet-to-length _)
 
 returns : tie.Need-returns Inv-loop μ-loop
 unfolding putPackets
@@ -53,13 +29,13 @@ put-packets-spec =
     (tie.spec
     Inv-loop
     μ-loop
-    loop-holds
-    mul-q
-    array-copy-out-q
-    mul-put-packet
-    put-packet-requires
-    add-i
-    loop-less
+    (λ c. (omega arith, upto-none _ _))
+    (λ c. search needs)
+    (λ c. search needs)
+    (λ c. search needs)
+    (λ c κs. search needs)
+    (λ c. search needs)
+    (λ c. search needs)
     loop-again
-    same-length
+    (λ c. ap length (c .before .loop .inv .1) ∙ upto-keeps length _ _ _ (packet-to-length _))
     returns)

@@ -15,36 +15,9 @@ Inv-loop xs₀ states i₀ xs i = (i ≤ 64) × (xs ≡ upto i (stateTo states) 
 abbrev μ-loop : tie.MeasureT-loop
 μ-loop xs₀ states i₀ xs i = 64 - i
 
-loop-holds : tie.Need-loop-holds Inv-loop μ-loop
-loop-holds c = (omega arith, upto-none _ _)
-
-mul-s : tie.Need-mul-s Inv-loop μ-loop
-mul-s c = search needs
-
-array-copy-out-s : tie.Need-array-copy-out-s Inv-loop μ-loop
-array-copy-out-s c = search needs
-
-mul-put-state : tie.Need-mul-put-state Inv-loop μ-loop
-mul-put-state c = search needs
-
-add-put-state : tie.Need-add-put-state Inv-loop μ-loop
-add-put-state c = search needs
-
-put-state-requires : tie.Need-put-state-requires Inv-loop μ-loop
-put-state-requires c κs = search needs
-
-add-i : tie.Need-add-i Inv-loop μ-loop
-add-i c = search needs
-
-loop-less : tie.Need-loop-less Inv-loop μ-loop
-loop-less c = search needs
-
 loop-again : tie.Need-loop-again Inv-loop μ-loop
 unfolding stateTo
 loop-again c = (omega arith, upto-turn _ _ (c .before .before .before .before .before .before .loop .inv .1) (c .before .before .put-state .ensures))
-
-same-length : tie.Need-same-length Inv-loop μ-loop
-same-length c = ap length (c .before .loop .inv .1) ∙ upto-keeps length _ _ _ (state-to-length _)
 
 returns : tie.Need-returns Inv-loop μ-loop
 unfolding putStates
@@ -56,14 +29,14 @@ put-states-spec =
     (tie.spec
     Inv-loop
     μ-loop
-    loop-holds
-    mul-s
-    array-copy-out-s
-    mul-put-state
-    add-put-state
-    put-state-requires
-    add-i
-    loop-less
+    (λ c. (omega arith, upto-none _ _))
+    (λ c. search needs)
+    (λ c. search needs)
+    (λ c. search needs)
+    (λ c. search needs)
+    (λ c κs. search needs)
+    (λ c. search needs)
+    (λ c. search needs)
     loop-again
-    same-length
+    (λ c. ap length (c .before .loop .inv .1) ∙ upto-keeps length _ _ _ (state-to-length _))
     returns)

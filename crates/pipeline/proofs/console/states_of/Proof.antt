@@ -14,36 +14,6 @@ Inv-loop xs a₀ i₀ a i = (i ≤ 64) × (a ≡ filled (stateAt xs 0) 64 i (λ 
 abbrev μ-loop : tie.MeasureT-loop
 μ-loop xs a₀ i₀ a i = 64 - i
 
-state-of-requires : tie.Need-state-of-requires Inv-loop μ-loop
-state-of-requires c κs = search needs
-
-loop-holds : tie.Need-loop-holds Inv-loop μ-loop
-loop-holds c = (omega arith, rw (c .state-of .ensures) (filled-none (stateAt (c .before .before .args .xs .now) 0) 64 _))
-
-mul-state-of : tie.Need-mul-state-of Inv-loop μ-loop
-mul-state-of c = search needs
-
-add-state-of : tie.Need-add-state-of Inv-loop μ-loop
-add-state-of c = search needs
-
-state-of-requires-2 : tie.Need-state-of-requires-2 Inv-loop μ-loop
-state-of-requires-2 c κs = search needs
-
-mul-a : tie.Need-mul-a Inv-loop μ-loop
-mul-a c = search needs
-
-array-set-from-a : tie.Need-array-set-from-a Inv-loop μ-loop
-array-set-from-a c = search needs
-
-add-i : tie.Need-add-i Inv-loop μ-loop
-add-i c = search needs
-
-loop-less : tie.Need-loop-less Inv-loop μ-loop
-loop-less c = search needs
-
-loop-again : tie.Need-loop-again Inv-loop μ-loop
-loop-again c = (omega arith, filled-turn (stateAt (c .before .before .before .before .before .args .xs .now) 0) 64 _ (omega arith) (c .before .before .loop .inv .1) (c .state-of2 .ensures))
-
 returns : tie.Need-returns Inv-loop μ-loop
 unfolding statesAt
 returns c = filled-all (stateAt (c .before .before .before .before .args .xs .now) 0) 64 _ (c .before .loop .inv .0) (c .loop-test .left) (c .before .loop .inv .1) ∙ filled-whole _ _ _
@@ -54,14 +24,14 @@ states-of-spec =
     (tie.spec
     Inv-loop
     μ-loop
-    state-of-requires
-    loop-holds
-    mul-state-of
-    add-state-of
-    state-of-requires-2
-    mul-a
-    array-set-from-a
-    add-i
-    loop-less
-    loop-again
+    (λ c κs. search needs)
+    (λ c. (omega arith, rw (c .state-of .ensures) (filled-none (stateAt (c .before .before .args .xs .now) 0) 64 _)))
+    (λ c. search needs)
+    (λ c. search needs)
+    (λ c κs. search needs)
+    (λ c. search needs)
+    (λ c. search needs)
+    (λ c. search needs)
+    (λ c. search needs)
+    (λ c. (omega arith, filled-turn (stateAt (c .before .before .before .before .before .args .xs .now) 0) 64 _ (omega arith) (c .before .before .loop .inv .1) (c .state-of2 .ensures)))
     returns)

@@ -15,30 +15,6 @@ Inv-loop xs at a₀ i₀ a i = (i ≤ 64) × (a ≡ filled 0 64 i (λ j. getD xs
 abbrev μ-loop : tie.MeasureT-loop
 μ-loop xs at a₀ i₀ a i = 64 - i
 
-loop-holds : tie.Need-loop-holds Inv-loop μ-loop
-loop-holds c = (omega arith, filled-none 0 64 _)
-
-add-number : tie.Need-add-number Inv-loop μ-loop
-add-number c = search needs
-
-number-requires : tie.Need-number-requires Inv-loop μ-loop
-number-requires c κs = search needs
-
-mul-a : tie.Need-mul-a Inv-loop μ-loop
-mul-a c = search needs
-
-array-write-a : tie.Need-array-write-a Inv-loop μ-loop
-array-write-a c = search needs
-
-add-i : tie.Need-add-i Inv-loop μ-loop
-add-i c = search needs
-
-loop-less : tie.Need-loop-less Inv-loop μ-loop
-loop-less c = search needs
-
-loop-again : tie.Need-loop-again Inv-loop μ-loop
-loop-again c = (omega arith, filled-turn 0 64 _ (omega arith) (c .before .before .loop .inv .1) (c .number .ensures))
-
 returns : tie.Need-returns Inv-loop μ-loop
 unfolding wordsAt
 returns c = filled-all 0 64 _ (c .before .loop .inv .0) (c .loop-test .left) (c .before .loop .inv .1) ∙ filled-whole _ _ _
@@ -49,12 +25,12 @@ words-of-spec =
     (tie.spec
     Inv-loop
     μ-loop
-    loop-holds
-    add-number
-    number-requires
-    mul-a
-    array-write-a
-    add-i
-    loop-less
-    loop-again
+    (λ c. (omega arith, filled-none 0 64 _))
+    (λ c. search needs)
+    (λ c κs. search needs)
+    (λ c. search needs)
+    (λ c. search needs)
+    (λ c. search needs)
+    (λ c. search needs)
+    (λ c. (omega arith, filled-turn 0 64 _ (omega arith) (c .before .before .loop .inv .1) (c .number .ensures)))
     returns)
