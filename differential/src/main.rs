@@ -5,6 +5,7 @@ mod graph;
 mod merges;
 mod oracle;
 mod packets;
+mod pipeline;
 mod prng;
 mod selftest;
 mod tally;
@@ -23,7 +24,13 @@ type Part = (&'static str, Option<fn(&Options) -> Tally>);
 
 fn parts() -> Vec<Part> {
     #[allow(unused_mut, clippy::vec_init_then_push)]
-    let mut all: Vec<Part> = vec![("graph", None), ("packets", None), ("merge", None), ("capture", None)];
+    let mut all: Vec<Part> = vec![
+        ("graph", None),
+        ("packets", None),
+        ("merge", None),
+        ("capture", None),
+        ("pipeline", None),
+    ];
     #[cfg(feature = "graph")]
     {
         all[0].1 = Some(graph::run);
@@ -36,6 +43,10 @@ fn parts() -> Vec<Part> {
     #[cfg(feature = "engines")]
     {
         all[3].1 = Some(capture::run);
+    }
+    #[cfg(feature = "pipeline")]
+    {
+        all[4].1 = Some(pipeline::run);
     }
     all
 }
@@ -71,6 +82,7 @@ fn main() {
             "packets" => packets::sample(),
             "merge" => merges::sample(),
             "capture" => capture::sample(),
+            "pipeline" => pipeline::sample(),
             _ => usage(&format!("no sample of {part}")),
         }
         return;

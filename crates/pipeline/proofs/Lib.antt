@@ -1,3 +1,4 @@
+pub mod Judging
 pub mod Joining
 pub mod Flooding
 pub mod Taking
@@ -8,3 +9,7 @@ pub mod Rounding
 pub mod Logs
 pub mod Totals
 pub mod PipelineCases
+pub mod Playing
+pub mod Numbering
+pub mod Written
+pub mod Packing

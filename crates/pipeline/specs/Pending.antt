@@ -134,6 +134,13 @@ isJudged n r start = leb (start + n) r
 unfoldable pub judgeAt : ℕ → ℕ → List ℕ → ℕ → NodeTwoPcState → NodeTwoPcState
 judgeAt n r rounds t s = either (isJudged n r (getD rounds t 0)) (finalizeTx t (unanimousOf n s t) s) s
 
+-- The same in two steps: which transactions are ripe, and the judgement of one.
+unfoldable pub ripeOf : ℕ → ℕ → List ℕ → ℕ
+ripeOf n r rounds = marks 64 (λ t. isJudged n r (getD rounds t 0))
+
+unfoldable pub settleAt : ℕ → ℕ → NodeTwoPcState → NodeTwoPcState
+settleAt n t s = finalizeTx t (unanimousOf n s t) s
+
 unfoldable pub judged : ℕ → ℕ → List ℕ → NodeTwoPcState → NodeTwoPcState
 judged n r rounds s = overMarks (s .pending) (judgeAt n r rounds) s
 

@@ -1,9 +1,12 @@
 // What is pending at one position: votes, judgements, gaps.
 ghost use mathlib.Core.Path.{_≡_};
-ghost use Prim.Native.Nat.{_<_};
+ghost use mathlib.Core.Bool.{_||_, _&&_};
+ghost use Prim.Native.Nat.{ℕ, _<_};
+ghost use lib.Dec.{eqb, ltb};
 ghost use Rattle.loops.specs.Pick.{either};
+ghost use Rattle.marks.specs.Marks.{has};
 ghost use Rattle.engines.specs.Marked.{overMarks, withMark};
-ghost use Rattle.pipeline.specs.Pending.{joinMarks, commonMarks, withoutMark, finalizeTx, unanimousOf, openTx, votesAt, mergeVotes, mergeAbort, gapAt, gapOf, nackOf, voteOf, isJudged, judgeAt, judged, fastOf, abortAll, ownVote};
+ghost use Rattle.pipeline.specs.Pending.{joinMarks, commonMarks, withoutMark, finalizeTx, unanimousOf, openTx, votesAt, mergeVotes, mergeAbort, gapAt, gapOf, nackOf, voteOf, isJudged, ripeOf, settleAt, judged, fastOf, abortAll, ownVote};
 use super::ledger;
 use super::two_pc_pipeline::NodeTwoPcState;
 use super::two_pc_pipeline::Vote;
@@ -237,29 +240,55 @@ pub fn is_judged(n: usize, r: u64, start: u64) -> bool
     if start <= r - rounds { true } else { false }
 }
 
-fn judge_at(n: usize, r: u64, rounds: &[u64; 64], t: usize, s: NodeTwoPcState) -> NodeTwoPcState
-    requires { ⌜ t < 64 ⌝ }
-    ensures { λ q. ⌜ q ≡ judgeAt n r (now (rounds .entry)) t s ⌝ }
+fn mark_if(m: u64, t: usize, yes: bool) -> u64
+    ensures { λ r. ⌜ ((k : ℕ) → has r k ≡ (has m k || (yes && (ltb k 64 && eqb k t)))) ⌝ }
 {
-    if !is_judged(n, r, rounds[t]) {
-        return s;
+    if yes {
+        return sets::with_mark(m, t);
     }
+    m
+}
+
+// The transactions for which n rounds have passed, pending or not.
+fn ripe(n: usize, r: u64, rounds: &[u64; 64]) -> u64
+    ensures { λ m. ⌜ m ≡ ripeOf n r (now (rounds .entry)) ⌝ }
+{
+    let mut m: u64 = 0;
+    let mut t: usize = 0;
+    while t < 64 {
+        m = mark_if(m, t, is_judged(n, r, rounds[t]));
+        t += 1;
+    }
+    m
+}
+
+fn judge_at(n: usize, t: usize, s: NodeTwoPcState) -> NodeTwoPcState
+    ensures { λ q. ⌜ q ≡ settleAt n t s ⌝ }
+{
     let committed = check_unanimity(n, s, t);
     finalize_tx(s, t, committed)
 }
 
-// What is pending is judged, the lowest first.
-pub fn judge(n: usize, r: u64, rounds: &[u64; 64], s: NodeTwoPcState) -> NodeTwoPcState
-    ensures { λ q. ⌜ q ≡ judged n r (now (rounds .entry)) s ⌝ }
+// These are judged, the lowest first.
+fn judge_all(n: usize, due: u64, s: NodeTwoPcState) -> NodeTwoPcState
+    ensures { λ q. ⌜ q ≡ overMarks due (settleAt n) s ⌝ }
 {
     let mut q = s;
-    let mut left = s.pending;
+    let mut left = due;
     while left != 0 {
         let t = sets::lowest_mark(left);
-        q = judge_at(n, r, rounds, t, q);
+        q = judge_at(n, t, q);
         left = sets::without_mark(left, t);
     }
     q
+}
+
+// What is pending is judged. Which of it is due is found first, by numbers alone: a state is copied only where it changes.
+pub fn judge(n: usize, r: u64, rounds: &[u64; 64], s: NodeTwoPcState) -> NodeTwoPcState
+    ensures { λ q. ⌜ q ≡ judged n r (now (rounds .entry)) s ⌝ }
+{
+    let due = common(s.pending, ripe(n, r, rounds));
+    judge_all(n, due, s)
 }
 
 // What is pending and has an abort.
