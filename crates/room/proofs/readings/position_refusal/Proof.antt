@@ -5,28 +5,26 @@ use Rattle.graph.proofs.Answers.{size-none, size-many, size-ok}
 use borrow.Author.Needs.{needs}
 use Rattle.room.proofs.readings.position_refusal.Statement.{statement}
 use Rattle.room.proofs.readings.position_refusal.Tie as tie
-use Rattle.room.proofs.readings.position_refusal.Reads as reads
-use Rattle.room.proofs.readings.position_refusal.Lts as lts
 
--- src/readings.rt:295:9
 returns : tie.Need-returns
 unfolding positionRefusal
 returns c = rw (size-none _ (c .if1 .taken))
 
--- src/readings.rt:298:9
 returns-2 : tie.Need-returns-2
 unfolding positionRefusal
 returns-2 c = rw (size-many _ (c .if2 .taken))
 
--- src/readings.rt:301:9
 returns-3 : tie.Need-returns-3
 unfolding positionRefusal
 returns-3 c = rw (size-ok (c .before .before .before .args .n) (omega arith) (omega arith), le-ltb _ _ (c .if3 .taken))
 
--- src/readings.rt:291:1
 returns-4 : tie.Need-returns-4
 unfolding positionRefusal
 returns-4 c = rw (size-ok (c .before .before .before .args .n) (omega arith) (omega arith), lt-ltb _ _ (c .if3 .left))
 
 pub position-refusal-spec : {M : Type 1} → statement M
-position-refusal-spec = tie.close (tie.spec returns returns-2 returns-3 returns-4)
+position-refusal-spec = tie.close (tie.spec
+    returns
+    returns-2
+    returns-3
+    returns-4)

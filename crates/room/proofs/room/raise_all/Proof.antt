@@ -12,9 +12,6 @@ Inv-loop n count a₀ i₀ a i = (i ≤ count) × (a ≡ upto i raiseAt a₀)
 abbrev μ-loop : tie.MeasureT-loop
 μ-loop n count a₀ i₀ a i = count - i
 
-loop-again : tie.Need-loop-again Inv-loop μ-loop
-loop-again c = (search needs, upto-turn _ _ (c .before .before .before .loop .inv .1) (rw (c .raise .ensures)))
-
 returns : tie.Need-returns Inv-loop μ-loop
 unfolding raisedAll
 returns c = rw (← c .before .before .at-most-64 .ensures) (upto-all _ _ (c .before .loop .inv .0) (c .loop-test .left) (c .before .loop .inv .1))
@@ -25,14 +22,46 @@ raise-all-spec =
     (tie.spec
     Inv-loop
     μ-loop
-    (λ c κs. search needs)
-    (λ c. (search needs, upto-none _ _))
-    (λ c. search needs)
-    (λ c. search needs)
-    (λ c κs. search needs)
-    (λ c. search needs)
-    (λ c. search needs)
-    (λ c. search needs)
-    (λ c. search needs)
-    loop-again
+    (λ
+    c
+    κs.
+    search
+    needs)
+    (λ
+    c.
+    (search
+    needs,
+    upto-none
+    _
+    _))
+    (λ
+    c.
+    search
+    needs)
+    (λ
+    c.
+    search
+    needs)
+    (λ
+    c
+    κs.
+    search
+    needs)
+    (λ
+    c.
+    search
+    needs)
+    (λ
+    c.
+    search
+    needs)
+    (λ
+    c.
+    search
+    needs)
+    (λ
+    c.
+    search
+    needs)
+    (λ c. (search needs, upto-turn _ _ (c .before .before .before .loop .inv .1) (rw (c .raise .ensures))))
     returns)
