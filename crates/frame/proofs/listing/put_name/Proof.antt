@@ -1,60 +1,20 @@
+use Rattle.frame.specs.Listing.{nameOf}
+use Rattle.frame.proofs.Texts.{name-start, name-length, name-more, name-done}
+use Rattle.frame.proofs.Digits.{number-lt}
+use Rattle.texts.specs.Put.{Put}
+use lib.ListN.{length}
+use native.Mathlib.Omega.{arith}
+use mathlib.Core.Path.{_≡_, refl, _∙_}
+use Prim.Native.Nat.{_+_, _*_, _≤_, _-_}
 use borrow.Author.Needs.{needs}
 use Rattle.frame.proofs.listing.put_name.Statement.{statement}
 use Rattle.frame.proofs.listing.put_name.Tie as tie
-use Rattle.frame.proofs.listing.put_name.Reads as reads
-use Rattle.frame.proofs.listing.put_name.Lts as lts
-use Rattle.frame.proofs.line.number_at.Reads as number-at-reads
-use Rattle.frame.proofs.put.put_byte.Reads as put-byte-reads
 
 abbrev Inv-loop : tie.InvT-loop
-Inv-loop s out₀ n o₀ k₀ out o k = ?
+Inv-loop s out₀ n o₀ k₀ out o k = (k ≤ n) × (length out ≡ length out₀) × Put out₀ 0 (nameOf s k) o out
 
 abbrev μ-loop : tie.MeasureT-loop
-μ-loop s out₀ n o₀ k₀ out o k = ?
-
--- src/listing.rt:57:5
-loop-holds : tie.Need-loop-holds Inv-loop μ-loop
-loop-holds c = search needs
-
--- src/listing.rt:58:59
-mul-number-at : tie.Need-mul-number-at Inv-loop μ-loop
-mul-number-at c = search needs
-
--- src/listing.rt:58:54
-add-number-at : tie.Need-add-number-at Inv-loop μ-loop
-add-number-at c = search needs
-
--- src/listing.rt:58:35
-number-at-requires : tie.Need-number-at-requires Inv-loop μ-loop
-number-at-requires c κs = search needs
-
--- src/listing.rt:58:35
-cast-put-byte : tie.Need-cast-put-byte Inv-loop μ-loop
-cast-put-byte c = search needs
-
--- src/listing.rt:58:9
-put-byte-requires : tie.Need-put-byte-requires Inv-loop μ-loop
-put-byte-requires c κs = search needs
-
--- src/listing.rt:59:9
-add-k : tie.Need-add-k Inv-loop μ-loop
-add-k c = search needs
-
--- src/listing.rt:57:5
-loop-less : tie.Need-loop-less Inv-loop μ-loop
-loop-less c = search needs
-
--- src/listing.rt:57:5
-loop-again : tie.Need-loop-again Inv-loop μ-loop
-loop-again c = search needs
-
--- src/listing.rt:51:1
-same-length : tie.Need-same-length Inv-loop μ-loop
-same-length c = search needs
-
--- src/listing.rt:51:1
-returns : tie.Need-returns Inv-loop μ-loop
-returns c = search needs
+μ-loop s out₀ n o₀ k₀ out o k = n - k
 
 pub put-name-spec : {M : Type 1} → statement M
 put-name-spec =
@@ -62,14 +22,14 @@ put-name-spec =
     (tie.spec
     Inv-loop
     μ-loop
-    loop-holds
-    mul-number-at
-    add-number-at
-    number-at-requires
-    cast-put-byte
-    put-byte-requires
-    add-k
-    loop-less
-    loop-again
-    same-length
-    returns)
+    (λ c. (omega arith, refl, name-start _ (c .before .before .args .out .now)))
+    (λ c. search needs)
+    (λ c. search needs)
+    (λ c κs. search needs)
+    (λ c. omega (arith, c .number-at .ensures, number-lt (c .before .before .before .before .before .before .args .s .now) (76 + 2 * c .before .before .before .loop .k) 2))
+    (λ c κs. omega (arith, c .before .before .before .loop .inv .2 .next, name-length (c .before .before .before .before .before .before .args .s .now) (c .before .before .before .loop .k)))
+    (λ c. search needs)
+    (λ c. search needs)
+    (λ c. (omega arith, c .before .before .put-byte .kept .0 ∙ c .before .before .before .before .before .before .loop .inv .1, name-more _ _ _ (omega arith) (c .before .before .before .number-at .ensures) (c .before .before .before .before .before .before .loop .inv .2) (c .before .before .put-byte .ensures)))
+    (λ c. c .before .loop .inv .1)
+    (λ c. name-done _ (c .before .loop .inv .0) (c .loop-test .left) (c .before .loop .inv .2)))

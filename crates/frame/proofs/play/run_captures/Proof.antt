@@ -1,41 +1,26 @@
+use Rattle.frame.specs.Play.{captureTurn}
+use Rattle.loops.specs.Upto.{upto, upto-none, upto-turn, upto-all}
+use mathlib.Core.Path.{_≡_}
+use Prim.Native.Nat.{_≤_, _-_}
 use borrow.Author.Needs.{needs}
 use Rattle.frame.proofs.play.run_captures.Statement.{statement}
 use Rattle.frame.proofs.play.run_captures.Tie as tie
-use Rattle.frame.proofs.play.run_captures.Reads as reads
-use Rattle.frame.proofs.play.run_captures.Lts as lts
-use Rattle.frame.proofs.play.capture_turn.Reads as capture-turn-reads
 
 abbrev Inv-loop : tie.InvT-loop
-Inv-loop words n t s₀ k₀ s k = ?
+Inv-loop words n t s₀ k₀ s k = (k ≤ t) × (s ≡ upto k (captureTurn words n) s₀)
 
 abbrev μ-loop : tie.MeasureT-loop
-μ-loop words n t s₀ k₀ s k = ?
-
--- src/play.rt:131:5
-loop-holds : tie.Need-loop-holds Inv-loop μ-loop
-loop-holds c = search needs
-
--- src/play.rt:132:9
-capture-turn-requires : tie.Need-capture-turn-requires Inv-loop μ-loop
-capture-turn-requires c κs = search needs
-
--- src/play.rt:133:9
-add-k : tie.Need-add-k Inv-loop μ-loop
-add-k c = search needs
-
--- src/play.rt:131:5
-loop-less : tie.Need-loop-less Inv-loop μ-loop
-loop-less c = search needs
-
--- src/play.rt:131:5
-loop-again : tie.Need-loop-again Inv-loop μ-loop
-loop-again c = search needs
-
--- src/play.rt:125:1
-returns : tie.Need-returns Inv-loop μ-loop
-returns c = search needs
+μ-loop words n t s₀ k₀ s k = t - k
 
 pub run-captures-spec : {M : Type 1} → statement M
 run-captures-spec =
     tie.close
-    (tie.spec Inv-loop μ-loop loop-holds capture-turn-requires add-k loop-less loop-again returns)
+    (tie.spec
+    Inv-loop
+    μ-loop
+    (λ c. (search needs, upto-none _ _))
+    (λ c κs. search needs)
+    (λ c. search needs)
+    (λ c. search needs)
+    (λ c. (search needs, upto-turn _ _ (c .before .before .loop .inv .1) (c .capture-turn .ensures)))
+    (λ c. upto-all _ _ (c .before .loop .inv .0) (c .loop-test .left) (c .before .loop .inv .1)))
