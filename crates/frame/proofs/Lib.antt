@@ -1,2 +1,5 @@
 pub mod Digits
 pub mod Frames
+pub mod Floats
+pub mod Playing
+pub mod Texts

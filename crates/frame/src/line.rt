@@ -52,7 +52,7 @@ fn digit_at(s: &[u8], i: usize) -> u64
 }
 
 // The number that c digits from place i on are, the highest first.
-fn number_at(s: &[u8], i: usize, c: usize) -> u64
+pub(crate) fn number_at(s: &[u8], i: usize, c: usize) -> u64
     requires { ⌜ (c ≤ 16) × (i < 2 ^ 32) ⌝ }
     ensures { λ r. ⌜ r ≡ numberAt (now (s .entry)) i c ⌝ }
 {
@@ -150,7 +150,7 @@ fn has_name(s: &[u8]) -> bool
     (s.len() - (76 + 2 * n)) % 16 == 0
 }
 
-fn name_length(s: &[u8]) -> usize
+pub(crate) fn name_length(s: &[u8]) -> usize
     ensures { λ r. ⌜ (r ≡ nameLength (now (s .entry))) × (r ≤ 255) ⌝ }
 {
     number_at(s, 74, 2) as usize
