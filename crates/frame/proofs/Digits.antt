@@ -75,6 +75,9 @@ unfolding numberAt
 number-lt s i zero = omega arith
 number-lt s i (suc c) = omega (arith, number-lt s i c, digit-lt (getD s (i + c) 0), pow-suc 16 c)
 
+pub byte-lt : (s : List ℕ) (i : ℕ) {v : ℕ} → v ≡ numberAt s i 2 → v < 256
+byte-lt s i e = omega (arith, number-lt s i 2)
+
 -- a digit more
 pub number-more : (s : List ℕ) (i k v d : ℕ) → v ≡ numberAt s i k → d ≡ digitOf (getD s (i + k) 0) → v * 16 + d ≡ numberAt s i (k + 1)
 unfolding numberAt

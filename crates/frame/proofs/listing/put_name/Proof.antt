@@ -1,6 +1,6 @@
 use Rattle.frame.specs.Listing.{nameOf}
 use Rattle.frame.proofs.Texts.{name-start, name-length, name-more, name-done}
-use Rattle.frame.proofs.Digits.{number-lt}
+use Rattle.frame.proofs.Digits.{byte-lt}
 use Rattle.texts.specs.Put.{Put}
 use lib.ListN.{length}
 use native.Mathlib.Omega.{arith}
@@ -26,7 +26,7 @@ put-name-spec =
     (λ c. search needs)
     (λ c. search needs)
     (λ c κs. search needs)
-    (λ c. omega (arith, c .number-at .ensures, number-lt (c .before .before .before .before .before .before .args .s .now) (76 + 2 * c .before .before .before .loop .k) 2))
+    (λ c. omega (arith, byte-lt _ _ (c .number-at .ensures)))
     (λ c κs. omega (arith, c .before .before .before .loop .inv .2 .next, name-length (c .before .before .before .before .before .before .args .s .now) (c .before .before .before .loop .k)))
     (λ c. search needs)
     (λ c. search needs)
