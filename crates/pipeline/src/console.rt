@@ -378,7 +378,7 @@ fn put_txs(xs: &mut [u64], txs: Txs, book: Book)
     numbers::put_run(xs, 0, 213, &ends);
 }
 
-fn put_played(xs: &mut [u64], t: Played)
+pub fn put_played(xs: &mut [u64], t: Played)
     ensures { λ _. ⌜ now (xs .exit) ≡ putPlayed t (now (xs .entry)) ⌝ }
 {
     let p = t.pipe;

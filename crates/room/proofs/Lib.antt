@@ -8,3 +8,4 @@ pub mod Demand
 pub mod Resting
 pub mod Still
 pub mod Cases
+pub mod Running

@@ -1,3 +1,4 @@
 // Rooms: opened, called, read. The fourth of the layers.
+pub mod console;
 pub mod readings;
 pub mod room;

@@ -500,7 +500,7 @@ fn pipe_conf(c: RoomConf) -> PipelineConf
     }
 }
 
-fn pipe_of(r: Room) -> Pipeline
+pub fn pipe_of(r: Room) -> Pipeline
     ensures { λ p. ⌜ p ≡ pipeOf r ⌝ }
 {
     let at = r.nodes;
