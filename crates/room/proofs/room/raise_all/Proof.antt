@@ -28,12 +28,13 @@ raise-all-spec =
     search
     needs)
     (λ
-    c.
-    (search
-    needs,
-    upto-none
-    _
-    _))
+    c. (
+      search
+          needs,
+      upto-none
+          _
+          _,
+    ))
     (λ
     c.
     search
