@@ -14,10 +14,11 @@ use Rattle.graph.specs.declared.network.Built.{Built}
 use Rattle.marks.specs.Marks.{allOf}
 use Rattle.packets.specs.Votes.{add64}
 use Rattle.packets.specs.Merging.{Noes, proposalOf, networkGoalOf}
-use Rattle.packets.specs.declared.merging.Held.the-variants.{Packet}
+use Rattle.packets.specs.declared.merging.Held.the-variants.{Empty, Packet}
 use Rattle.packets.specs.declared.merging.Payload.{Payload}
 use Rattle.packets.proofs.Safety.{either-cases, proposes-sound}
 use Rattle.packets.proofs.Growth.{proposal-term}
+use Rattle.packets.proofs.Limits.{proposes-valid}
 use Rattle.engines.specs.Limits.{few}
 use Rattle.engines.specs.Nodes.{inc, tickedAll}
 use Rattle.engines.specs.Turns.{started, startedAll, turned, turnOf, turnedAll}
@@ -38,14 +39,14 @@ use Rattle.room.specs.Rooms.{isPipeline, sizeOf, noesOf, openRefusal, em
 use Rattle.room.specs.Calls.{captureSlots}
 use Rattle.room.specs.Demand.{heldAt}
 use Rattle.room.proofs.Counting.{Counts, all-counts, ticked-counts, new-counts}
-use Rattle.room.proofs.Holding.{Good, Fit, AllGood, grown-same, set-each, told-good, told-follows}
+use Rattle.room.proofs.Holding.{Good, Fit, AllGood, not-packet, grown-same, set-each, told-good, told-follows}
 use Rattle.room.proofs.Moments.{Inv, same-logs, Way, way-none, Quiet, quiet-way, first-quiet, last-quiet, Slot, round-way}
 
 -- ---- nothing held
 
 pub empties-good : (nay : Noes) (n t k : ℕ) → AllGood nay n t (replicate k emptyPayload)
-empties-good nay n t zero v = record { sound = tt; fit = tt }
-empties-good nay n t (suc k) zero = record { sound = tt; fit = tt }
+empties-good nay n t zero v = record { sound = tt; fit = tt; valid = λ e. absurd (not-packet {h = Empty} refl e) }
+empties-good nay n t (suc k) zero = record { sound = tt; fit = tt; valid = λ e. absurd (not-packet {h = Empty} refl e) }
 empties-good nay n t (suc k) (suc v) = empties-good nay n t k v
 
 pub term-at : {nay : Noes} {n t : ℕ} (l : Payload) → Good nay n t l → l .held ≡ Packet → l .packet .term ≡ t
@@ -114,7 +115,7 @@ proposed-quiet r v i h l =
         term = omega (arith, up);
         held = set-each (λ u m. Good nay (sizeOf r) (add64 (r .terms .term) 1) m) (replicate 64 emptyPayload) v p
             (empties-good nay (sizeOf r) (add64 (r .terms .term) 1) 64)
-            (record { sound = proposes-sound nay (sizeOf r) v (r .terms .term) h; fit = proposal-term nay (sizeOf r) v (r .terms .term) });
+            (record { sound = proposes-sound nay (sizeOf r) v (r .terms .term) h; fit = proposal-term nay (sizeOf r) v (r .terms .term); valid = λ e. proposes-valid nay (sizeOf r) v (r .terms .term) (i .size) });
       };
       le = record {
         fixed = refl;
@@ -166,13 +167,13 @@ acted-slot ws r c i h =
             (all-counts (turnOf (c .slot) (newsOf p t)) (λ j v. record { listen = refl; flood = refl; sleep = refl }) (few (sizeOf r)) (tickedAll (sizeOf r) (c .nodes))
             (ticked-counts (c .nodes) (i .size) (omega arith) (i .counts)));
         term = i .term;
-        held = told-good (conf .voting) (r .terms .term) (p .hears) (c .held) (i .held);
+        held = told-good (conf .voting) (r .terms .term) (p .hears) (c .held) (i .size) (i .held);
       };
       le = record {
         fixed = refl;
         logs = same-logs r;
         term = omega arith;
-        held = λ v q l. told-follows (conf .voting) (r .terms .term) (p .hears) (c .held) (i .held) v q;
+        held = λ v q l. told-follows (conf .voting) (r .terms .term) (p .hears) (c .held) (i .size) (i .held) v q;
       };
       slot = inc-is (c .slot) (omega arith);
     }

@@ -1,4 +1,4 @@
--- What each position holds, within a term: a packet of the present term that claims what the votes bear out, or nothing; and a packet grows.
+-- What each position holds, within a term: a packet of the present term, within the limits, that claims what the votes bear out, or nothing; and a packet grows.
 -- Assumes nothing.
 use Prim.Native.Nat.{ℕ, zero, suc, _≤_, _<_}
 use mathlib.Core.List.{List, [], _∷_}
@@ -9,7 +9,7 @@ use native.Mathlib.Omega.{arith}
 use Rattle.loops.specs.Upto.{upto}
 use Rattle.packets.specs.Votes.{noOf}
 use Rattle.packets.specs.Merging.{Noes, mergeOf, nobody}
-use Rattle.packets.specs.Sound.{SoundHeld, Grew, Grown}
+use Rattle.packets.specs.Sound.{SoundHeld, ValidHeld, Grew, Grown}
 use Rattle.packets.specs.declared.votes.Voting.{Voting}
 use Rattle.packets.specs.declared.CeTwoPcPacket.{CeTwoPcPacket}
 use Rattle.packets.specs.declared.merging.Held.{Held}
@@ -18,6 +18,7 @@ use Rattle.packets.specs.declared.merging.Payload.{Payload}
 use Rattle.packets.specs.declared.merging.Merged.{Merged}
 use Rattle.packets.proofs.Safety.{either-cases, merges-sound}
 use Rattle.packets.proofs.Growth.{merges-grow, merges-keep-term, empty-adopts, nothing-heard}
+use Rattle.packets.proofs.Limits.{merges-valid}
 use Rattle.engines.specs.Limits.{few}
 use Rattle.engines.specs.Ce.{hearingOf, toldAt, toldAll}
 use Rattle.engines.specs.declared.ce.Tellings.{Tellings}
@@ -51,6 +52,7 @@ Fit t p Packet = p .term ≡ t
 pub record Good (nay : Noes) (n t : ℕ) (l : Payload) : Type 0 where
   pub sound : SoundHeld nay n l
   pub fit : Fit t (l .packet) (l .held)
+  pub valid : ValidHeld l
 
 abbrev pub AllGood : Noes → ℕ → ℕ → List Payload → Type 0
 AllGood nay n t ls = (v : ℕ) → Good nay n t (getD ls v nobody)
@@ -59,7 +61,7 @@ AllGood nay n t ls = (v : ℕ) → Good nay n t (getD ls v nobody)
 abbrev pub Follows : Payload → Payload → Type 0
 Follows l m = l .held ≡ Packet → Grown l m
 
-not-packet : {h : Held} → h ≡ Empty → h ≡ Packet → ⊥
+pub not-packet : {h : Held} → h ≡ Empty → h ≡ Packet → ⊥
 not-packet p q = let z : _≡_ {A = ℕ} 0 1 = cc in omega arith
 
 module _ (nay : Noes) (n t v : ℕ) (l r : Payload) where
@@ -77,11 +79,12 @@ module _ (nay : Noes) (n t v : ℕ) (l r : Payload) where
       let e = merges-grow nay n v l r p .held in
       rw e (merges-keep-term nay n v l r p q (g ∙ sym f) ∙ f)
 
-  pub merge-good : v < n → Good nay n t l → Good nay n t r → Good nay n t (mergeOf nay n v l r .payload)
-  merge-good h x y =
+  pub merge-good : v < n → n ≤ 64 → Good nay n t l → Good nay n t r → Good nay n t (mergeOf nay n v l r .payload)
+  merge-good h w x y =
       record {
         sound = merges-sound nay n v l r h (x .sound) (y .sound);
         fit = merge-fit-by (l .held) (r .held) refl refl (x .fit) (y .fit);
+        valid = merges-valid nay n v l r w (x .valid) (y .valid);
       }
 
 -- ---- a list of payloads, one of which is replaced
@@ -101,7 +104,7 @@ upto-below P f n h (suc k) l s p = h k (upto k f s) l (upto-below P f n h k (ome
 
 -- ---- a slot: each position keeps what it holds, or merges what another one held at the slot's start
 
-module _ (s : Voting) (t : ℕ) (hears : List ℕ) (held : List Payload) (good : AllGood (noOf s) (s .n) t held) where
+module _ (s : Voting) (t : ℕ) (hears : List ℕ) (held : List Payload) (size : s .n ≤ 64) (good : AllGood (noOf s) (s .n) t held) where
   -- the position v holds m now
   record Heard (v : ℕ) (m : Payload) : Type 0 where
     good-now : Good (noOf s) (s .n) t m
@@ -112,7 +115,7 @@ module _ (s : Voting) (t : ℕ) (hears : List ℕ) (held : List Payload) (good :
   hearing v h =
       either-cases (λ (m : Merged). Heard v (m .payload)) (ltb (getD hears v 0) 64)
       (λ x. record {
-        good-now = merge-good (noOf s) (s .n) t v (getD held v nobody) (getD held (getD hears v 0) nobody) h (good v) (good (getD hears v 0));
+        good-now = merge-good (noOf s) (s .n) t v (getD held v nobody) (getD held (getD hears v 0) nobody) h size (good v) (good (getD hears v 0));
         follows = λ p. merges-grow (noOf s) (s .n) v (getD held v nobody) (getD held (getD hears v 0) nobody) p;
       })
       (λ x. record { good-now = good v; follows = λ p. grown-same (getD held v nobody) p })

@@ -3,4 +3,5 @@ pub mod Readings
 pub mod Calls
 pub mod Console
 pub mod Demand
+pub mod Texts
 pub mod Cases
