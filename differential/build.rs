@@ -13,7 +13,7 @@ fn main() {
         None => here.join("../target/staticlib"),
     };
     println!("cargo:rustc-link-search=native={}", folder.display());
-    for part in ["graph", "packets", "engines", "pipeline"] {
+    for part in ["graph", "packets", "engines", "pipeline", "room"] {
         let feature = format!("CARGO_FEATURE_{}", part.to_uppercase());
         if env::var_os(feature).is_some() {
             println!(

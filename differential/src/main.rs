@@ -7,6 +7,7 @@ mod oracle;
 mod packets;
 mod pipeline;
 mod prng;
+mod room;
 mod selftest;
 mod tally;
 #[allow(dead_code)]
@@ -30,6 +31,7 @@ fn parts() -> Vec<Part> {
         ("merge", None),
         ("capture", None),
         ("pipeline", None),
+        ("room", None),
     ];
     #[cfg(feature = "graph")]
     {
@@ -47,6 +49,10 @@ fn parts() -> Vec<Part> {
     #[cfg(feature = "pipeline")]
     {
         all[4].1 = Some(pipeline::run);
+    }
+    #[cfg(feature = "room")]
+    {
+        all[5].1 = Some(room::run);
     }
     all
 }

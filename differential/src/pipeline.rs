@@ -600,16 +600,99 @@ pub fn sample() {
     }
 }
 
+/// A room as our numbers, and what they say.
+pub mod numbers {
+    use super::*;
+    use ctsim::protocol::two_pc_pipeline::{serialize_packet, TwoPcPacket};
+
+    /// Where the numbers of a state stand.
+    pub const SLOT: usize = 0;
+    pub const NEXT: usize = 1;
+    pub const ROUND: usize = 2;
+    pub const SENT: usize = 3;
+    pub const STOP: usize = 4;
+    pub const USED: usize = 5;
+    pub const CURSOR: usize = 6;
+    pub const METRICS: usize = 7;
+    pub const PIGGYBACK: usize = 15;
+    pub const HOLDING: usize = 18;
+    pub const COUNTER: usize = 19;
+    pub const STARTS: usize = 20;
+    pub const ROUNDS: usize = 84;
+    pub const BOOK: usize = 148;
+    pub const ENDS: usize = 213;
+    pub const NODES: usize = 277;
+    pub const STATES: usize = 789;
+    pub const STATE: usize = 131;
+    pub const PAYLOADS: usize = 9173;
+    pub const PAYLOAD: usize = 9;
+    pub const COUNT: usize = 9749;
+
+    pub fn log_at(s: &[u64], at: usize) -> Vec<(u64, bool)> {
+        let len = s[at] as usize;
+        s[at + 1..at + 1 + len].iter().map(|e| (e % 256, *e > 255)).collect()
+    }
+
+    /// The packet that the numbers of a payload stand for, written by serde.
+    fn payload_at(s: &[u64], at: usize, n: usize) -> Vec<u8> {
+        let q = &s[at..at + PAYLOAD];
+        let there = q[6] != 0;
+        let outcome = if q[8] != 0 { TwoPcState::Committed } else { TwoPcState::Aborted };
+        serialize_packet(&TwoPcPacket {
+            transaction_id: q[0],
+            state: TwoPcState::Prepare,
+            flags_bitmap: (0..n).map(|i| q[1] >> i & 1 == 1).collect(),
+            abort_flag: q[2] != 0,
+            nack_tx_id: q[3],
+            transaction_data: if q[4] != 0 { format!("tx{}", q[0]).into_bytes() } else { Vec::new() },
+            sender: q[5] as usize,
+            piggyback_tx: there.then_some(q[7]),
+            piggyback_state: there.then_some(outcome),
+        })
+    }
+
+    fn pending(s: &[u64], i: usize) -> Vec<Pending> {
+        let v = &s[STATES + STATE * i..][..STATE];
+        let one = |t: usize| (t as u64, v[67 + t], v[66] >> t & 1 == 1, s[ROUNDS + t]);
+        (0..64).filter(|t| v[65] >> t & 1 == 1).map(one).collect()
+    }
+
+    /// What the numbers say, for the first n positions.
+    pub fn view(s: &[u64], rows: &[u64], n: usize) -> View {
+        let node = |i: usize| &s[NODES + 8 * i..][..8];
+        let (there, pb) = (s[PIGGYBACK] != 0, (s[PIGGYBACK + 1], s[PIGGYBACK + 2] != 0));
+        let held = |i: usize| s[HOLDING] >> i & 1 == 1;
+        View {
+            clock: (s[SLOT], s[NEXT], s[ROUND], s[SENT], s[STOP] != 0, s[CURSOR]),
+            states: (0..n).map(node).map(|v| (v[0], v[1], v[2], v[3] != 0, v[4])).collect(),
+            counts: (0..n).map(node).map(|v| (v[5], v[6], v[7])).collect(),
+            payloads: (0..n)
+                .map(|i| if held(i) { payload_at(s, PAYLOADS + PAYLOAD * i, n) } else { Vec::new() })
+                .collect(),
+            logs: (0..n).map(|i| log_at(s, STATES + STATE * i)).collect(),
+            pending: (0..n).map(|i| pending(s, i)).collect(),
+            piggyback: there.then_some(pb),
+            generated: s[COUNTER],
+            records: log_at(s, BOOK)
+                .iter()
+                .map(|(t, o)| (*t, s[STARTS + *t as usize], s[ENDS + *t as usize], *o))
+                .collect(),
+            metrics: s[METRICS..METRICS + 8].try_into().unwrap(),
+            rows: rows[..5 * s[USED] as usize].to_vec(),
+        }
+    }
+}
+
 #[cfg(feature = "pipeline")]
 pub use compared::run;
 
 #[cfg(feature = "pipeline")]
 mod compared {
+    use super::numbers::*;
     use super::*;
     use crate::tally::Tally;
     use crate::time;
     use crate::Options;
-    use ctsim::protocol::two_pc_pipeline::{serialize_packet, TwoPcPacket};
     use ctsim::sim::two_pc_pipeline::TwoPcPipelineSim;
     use std::collections::BTreeMap;
 
@@ -637,29 +720,6 @@ mod compared {
             rounds: u64,
         ) -> u64;
     }
-
-    /// Where the numbers of a state stand.
-    const SLOT: usize = 0;
-    const NEXT: usize = 1;
-    const ROUND: usize = 2;
-    const SENT: usize = 3;
-    const STOP: usize = 4;
-    const USED: usize = 5;
-    const CURSOR: usize = 6;
-    const METRICS: usize = 7;
-    const PIGGYBACK: usize = 15;
-    const HOLDING: usize = 18;
-    const COUNTER: usize = 19;
-    const STARTS: usize = 20;
-    const ROUNDS: usize = 84;
-    const BOOK: usize = 148;
-    const ENDS: usize = 213;
-    const NODES: usize = 277;
-    const STATES: usize = 789;
-    const STATE: usize = 131;
-    const PAYLOADS: usize = 9173;
-    const PAYLOAD: usize = 9;
-    const COUNT: usize = 9749;
 
     const WAS: u64 = 0xA5A5_A5A5_A5A5_A5A5;
 
@@ -691,29 +751,6 @@ mod compared {
                 rounds: 1,
             }
         }
-    }
-
-    fn log_at(s: &[u64], at: usize) -> Vec<(u64, bool)> {
-        let len = s[at] as usize;
-        s[at + 1..at + 1 + len].iter().map(|e| (e % 256, *e > 255)).collect()
-    }
-
-    /// The packet that the numbers of a payload stand for, written by serde.
-    fn payload_at(s: &[u64], at: usize, n: usize) -> Vec<u8> {
-        let q = &s[at..at + PAYLOAD];
-        let there = q[6] != 0;
-        let outcome = if q[8] != 0 { TwoPcState::Committed } else { TwoPcState::Aborted };
-        serialize_packet(&TwoPcPacket {
-            transaction_id: q[0],
-            state: TwoPcState::Prepare,
-            flags_bitmap: (0..n).map(|i| q[1] >> i & 1 == 1).collect(),
-            abort_flag: q[2] != 0,
-            nack_tx_id: q[3],
-            transaction_data: if q[4] != 0 { format!("tx{}", q[0]).into_bytes() } else { Vec::new() },
-            sender: q[5] as usize,
-            piggyback_tx: there.then_some(q[7]),
-            piggyback_state: there.then_some(outcome),
-        })
     }
 
     impl Ours {
@@ -748,40 +785,8 @@ mod compared {
             }
         }
 
-        fn log(&self, i: usize) -> Vec<(u64, bool)> {
-            log_at(&self.state, STATES + STATE * i)
-        }
-
-        fn pending(&self, i: usize) -> Vec<Pending> {
-            let s = &self.state[STATES + STATE * i..][..STATE];
-            let one = |t: usize| (t as u64, s[67 + t], s[66] >> t & 1 == 1, self.state[ROUNDS + t]);
-            (0..64).filter(|t| s[65] >> t & 1 == 1).map(one).collect()
-        }
-
-        /// What the numbers say, for the first n positions.
         fn view(&self, n: usize) -> View {
-            let s = &self.state;
-            let node = |i: usize| &s[NODES + 8 * i..][..8];
-            let (there, pb) = (s[PIGGYBACK] != 0, (s[PIGGYBACK + 1], s[PIGGYBACK + 2] != 0));
-            let held = |i: usize| s[HOLDING] >> i & 1 == 1;
-            View {
-                clock: (s[SLOT], s[NEXT], s[ROUND], s[SENT], s[STOP] != 0, s[CURSOR]),
-                states: (0..n).map(node).map(|v| (v[0], v[1], v[2], v[3] != 0, v[4])).collect(),
-                counts: (0..n).map(node).map(|v| (v[5], v[6], v[7])).collect(),
-                payloads: (0..n)
-                    .map(|i| if held(i) { payload_at(s, PAYLOADS + PAYLOAD * i, n) } else { Vec::new() })
-                    .collect(),
-                logs: (0..n).map(|i| self.log(i)).collect(),
-                pending: (0..n).map(|i| self.pending(i)).collect(),
-                piggyback: there.then_some(pb),
-                generated: s[COUNTER],
-                records: log_at(s, BOOK)
-                    .iter()
-                    .map(|(t, o)| (*t, s[STARTS + *t as usize], s[ENDS + *t as usize], *o))
-                    .collect(),
-                metrics: s[METRICS..METRICS + 8].try_into().unwrap(),
-                rows: self.rows[..5 * s[USED] as usize].to_vec(),
-            }
+            view(&self.state, &self.rows, n)
         }
 
         /// The numbers of positions that are none, and those behind the state: they stay.
