@@ -1013,6 +1013,10 @@ mod compared {
 
     pub fn run(o: &Options) -> Tally {
         let mut t = Tally::new("capture");
+        if o.times_only {
+            times();
+            return t;
+        }
         let mut m = Met::new();
         rooms(&mut t, &mut m, &mut Prng::of(o.seed, "capture rooms"), 20_000 * o.scale);
         hands(

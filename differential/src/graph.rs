@@ -576,8 +576,27 @@ mod comparison {
         }
     }
 
+    fn times() {
+        for (what, g) in [("line", NetworkGraph::line(64)), ("mesh", NetworkGraph::full_mesh(64))] {
+            let rows = rows_of_graph(&g);
+            time::beside(
+                &format!("diameter of a {what} of 64"),
+                &mut || {
+                    std::hint::black_box(diameter(std::hint::black_box(&rows)));
+                },
+                &mut || {
+                    std::hint::black_box(std::hint::black_box(&g).diameter());
+                },
+            );
+        }
+    }
+
     pub fn run(options: &Options) -> Tally {
         let mut t = Tally::new("graph");
+        if options.times_only {
+            times();
+            return t;
+        }
         let mut r = Prng::of(options.seed, "graph");
         builders(&mut t, &mut r);
         refusals(&mut t, &mut r);
@@ -610,18 +629,7 @@ mod comparison {
             "graph: {graphs} random graphs, diameters 0 to {deepest} ({} of 10 or more), in {parted} position 0 does not reach all",
             longest[10..].iter().sum::<u64>()
         );
-        for (what, g) in [("line", NetworkGraph::line(64)), ("mesh", NetworkGraph::full_mesh(64))] {
-            let rows = rows_of_graph(&g);
-            time::beside(
-                &format!("diameter of a {what} of 64"),
-                &mut || {
-                    std::hint::black_box(diameter(std::hint::black_box(&rows)));
-                },
-                &mut || {
-                    std::hint::black_box(std::hint::black_box(&g).diameter());
-                },
-            );
-        }
+        times();
         t
     }
 }

@@ -1,6 +1,7 @@
 //! Compares our archives with the original program, part by part. See README.md.
 
 mod capture;
+mod frame;
 mod graph;
 mod merges;
 mod oracle;
@@ -18,6 +19,9 @@ use tally::Tally;
 struct Options {
     seed: u64,
     scale: u64,
+    /// no comparison, the times alone
+    #[allow(dead_code)]
+    times_only: bool,
 }
 
 /// A part: its name and what runs it, if its archive is linked.
@@ -32,7 +36,12 @@ fn parts() -> Vec<Part> {
         ("capture", None),
         ("pipeline", None),
         ("room", None),
+        ("frame", None),
     ];
+    // no archive: it runs the program that PLANNER names
+    if std::env::var_os("PLANNER").is_some() {
+        all[6].1 = Some(frame::run);
+    }
     #[cfg(feature = "graph")]
     {
         all[0].1 = Some(graph::run);
@@ -59,12 +68,16 @@ fn parts() -> Vec<Part> {
 
 fn usage(why: &str) -> ! {
     eprintln!("{why}");
-    eprintln!("differential [--seed N] [--scale N] [--oracle-only | --sample PART] [PART...]");
+    eprintln!("differential [--seed N] [--scale N] [--times | --oracle-only | --sample PART] [PART...]");
     std::process::exit(2)
 }
 
 fn main() {
-    let mut options = Options { seed: 1, scale: 1 };
+    let mut options = Options {
+        seed: 1,
+        scale: 1,
+        times_only: false,
+    };
     let (mut wanted, mut oracle_only, mut sample) = (Vec::new(), false, None);
     let mut args = std::env::args().skip(1);
     while let Some(a) = args.next() {
@@ -75,6 +88,7 @@ fn main() {
         match a.as_str() {
             "--seed" => options.seed = number(),
             "--scale" => options.scale = number(),
+            "--times" => options.times_only = true,
             "--oracle-only" => oracle_only = true,
             "--sample" => sample = Some(args.next().unwrap_or_else(|| usage("--sample wants a part"))),
             _ if a.starts_with('-') => usage(&format!("unknown: {a}")),
@@ -89,6 +103,7 @@ fn main() {
             "merge" => merges::sample(),
             "capture" => capture::sample(),
             "pipeline" => pipeline::sample(),
+            "frame" => frame::sample(),
             _ => usage(&format!("no sample of {part}")),
         }
         return;
@@ -102,7 +117,7 @@ fn main() {
     for w in &wanted {
         match all.iter().find(|p| p.0 == w) {
             None => usage(&format!("no part {w}")),
-            Some((_, None)) => usage(&format!("part {w}: its archive is not linked")),
+            Some((_, None)) => usage(&format!("part {w}: its archive is not linked, or PLANNER not set")),
             _ => {}
         }
     }

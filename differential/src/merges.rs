@@ -179,6 +179,7 @@ mod compared {
     use super::*;
     use crate::oracle::{protocol, votes_yes};
     use crate::tally::Tally;
+    use crate::time;
     use crate::Options;
     use ctsim::protocol::Protocol;
     use std::collections::BTreeMap;
@@ -401,11 +402,60 @@ mod compared {
         }
     }
 
+    /// Merges of texts of 64 marks, each from the same local text anew: both sides copy it into a buffer first.
+    fn times() {
+        let text = |phase, mark: fn(usize) -> bool| {
+            serde_json::to_vec(&CeTwoPcPacket {
+                term: 12345,
+                phase,
+                proposal_data: b"tx12345".to_vec(),
+                flags_bitmap: (0..64).map(mark).collect(),
+            })
+            .unwrap()
+        };
+        let (prepare, aborted) = (TwoPcCePhase::Prepare, TwoPcCePhase::Aborted);
+        let low = text(prepare, |i| i < 32);
+        let cases = [
+            ("news: two halves of the votes", low.clone(), text(prepare, |i| i >= 32)),
+            ("news: an abort over a prepare", low.clone(), text(aborted, |i| i == 1)),
+            ("news: nothing held before", Vec::new(), low.clone()),
+            ("no news: the same text", low.clone(), low),
+        ];
+        for (what, local, received) in cases {
+            let merger = protocol(64, 0, 0.0, 7);
+            let (mut held, mut len, mut news) = (vec![0u8; 596], 0, 0);
+            let mut kept: Vec<u8> = Vec::with_capacity(596);
+            let mut ours = || {
+                held[..local.len()].copy_from_slice(&local);
+                len = local.len() as u64;
+                let (count, given) = (received.len(), received.as_ptr());
+                let refusal = unsafe {
+                    ce_packet_merge(held.as_mut_ptr(), held.len(), &mut len, given, count, count as u64, 64, 5, 0.0, 7, &mut news)
+                };
+                assert_eq!(refusal, 0);
+                std::hint::black_box(&held);
+            };
+            let mut theirs = || {
+                kept.clear();
+                kept.extend(&local);
+                std::hint::black_box(merger.merge(&mut kept, std::hint::black_box(&received), 5));
+            };
+            let name = format!("merge of 64 marks, {what} ({} and {} bytes)", local.len(), received.len());
+            time::beside(&name, &mut ours, &mut theirs);
+            assert_eq!(kept, held[..len as usize]);
+        }
+    }
+
     pub fn run(o: &Options) -> Tally {
         let mut t = Tally::new("merge");
+        if o.times_only {
+            times();
+            return t;
+        }
         merges(&mut t, &mut Prng::of(o.seed, "merge"), 220_000 * o.scale);
         proposals(&mut t, &mut Prng::of(o.seed, "proposal"), 60_000 * o.scale);
         votes(&mut t, &mut Prng::of(o.seed, "vote"), 200_000 * o.scale);
+        times();
         t
     }
 }

@@ -1261,9 +1261,11 @@ mod comparison {
         let mut t = Tally::new("packets");
         let mut counts = Counts::new();
         let mut r = Prng::of(options.seed, "packets");
-        family::<Ce, Pipe>(&mut t, &mut r, &mut counts, options.scale);
-        family::<Pipe, Ce>(&mut t, &mut r, &mut counts, options.scale);
-        print_counts(&counts);
+        if !options.times_only {
+            family::<Ce, Pipe>(&mut t, &mut r, &mut counts, options.scale);
+            family::<Pipe, Ce>(&mut t, &mut r, &mut counts, options.scale);
+            print_counts(&counts);
+        }
         let marks: Vec<bool> = (0..64).map(|i| i % 3 != 1).collect();
         timed::<Ce>(&CeTwoPcPacket {
             term: 12345,

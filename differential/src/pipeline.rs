@@ -1156,6 +1156,10 @@ mod compared {
 
     pub fn run(o: &Options) -> Tally {
         let mut t = Tally::new("pipeline");
+        if o.times_only {
+            times(&mut Prng::of(o.seed, "pipeline times"));
+            return t;
+        }
         let mut met = Met::default();
         let mut r = Prng::of(o.seed, "pipeline");
         for _ in 0..10_500 * o.scale {

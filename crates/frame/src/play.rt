@@ -32,7 +32,7 @@ fn is_nan(bits: u64) -> bool
     bits % 4503599627370496 != 0
 }
 
-// The value of a pattern of bits. Every NaN is one value, which only a sum makes: the language makes none of bits.
+// The value of a pattern of bits. Every NaN is one value, which only arithmetic makes: the language makes none of bits.
 fn float_of(bits: u64) -> f64
     ensures { λ r. ⌜ r ≡ ofBits binary64 bits ⌝ }
 {

@@ -28,11 +28,14 @@ fn end_line(out: &mut [u8], end: usize)
     out[end] = 10;
 }
 
-// One write for a whole line.
+// One write for a whole line. If it fails, nobody reads the lines, and standard error says so.
 fn send(out: &mut [u8], end: usize) -> bool {
     if end < out.len() {
         end_line(out, end);
-        return io::write_all(1, &out[0..end + 1]);
+        if io::write_all(1, &out[0..end + 1]) {
+            return true;
+        }
+        os::fail(b"planner");
     }
     false
 }
