@@ -20,7 +20,6 @@ struct Options {
     seed: u64,
     scale: u64,
     /// no comparison, the times alone
-    #[allow(dead_code)]
     times_only: bool,
 }
 
