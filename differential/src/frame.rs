@@ -4,6 +4,7 @@
 use crate::oracle::{caught, config, Capture, PipelineRoom};
 use crate::prng::Prng;
 use crate::tally::Tally;
+use crate::time;
 use crate::Options;
 use ctsim::network::NetworkGraph;
 use rand_chacha::ChaCha8Rng;
@@ -912,12 +913,13 @@ fn by_the_rust(line: &[u8]) -> u64 {
     room.slot
 }
 
+/// Processor time of the program on these lines, its start included.
 fn ours_in(input: &std::path::Path) -> f64 {
     let file = std::fs::File::open(input).unwrap();
-    let start = Instant::now();
+    let start = time::used_by_others();
     let status = Command::new(planner()).stdin(file).stdout(Stdio::null()).status().unwrap();
     assert!(status.success());
-    start.elapsed().as_secs_f64()
+    time::used_by_others() - start
 }
 
 fn times() {
@@ -956,11 +958,11 @@ fn times() {
         let (mut ours, mut theirs) = (f64::MAX, f64::MAX);
         for _ in 0..5 {
             ours = ours.min(ours_in(&path));
-            let start = Instant::now();
+            let start = time::used();
             for l in &lines {
                 std::hint::black_box(by_the_rust(l));
             }
-            theirs = theirs.min(start.elapsed().as_secs_f64());
+            theirs = theirs.min(time::used() - start);
         }
         let count = lines.len() as f64;
         println!(
