@@ -12,20 +12,9 @@
 #include <stdlib.h>
 #include <string.h>
 
+#include "random.h"
+
 enum { MOST = 70000, DIGITS = 60000 };
-
-static uint64_t state;
-
-static uint64_t next_word(void)
-{
-    state += 0x9e3779b97f4a7c15u;
-    uint64_t z = state;
-    z = (z ^ (z >> 30)) * 0xbf58476d1ce4e5b9u;
-    z = (z ^ (z >> 27)) * 0x94d049bb133111ebu;
-    return z ^ (z >> 31);
-}
-
-static uint64_t below(uint64_t n) { return (uint64_t)(((unsigned __int128)next_word() * n) >> 64); }
 
 static const char hex[] = "0123456789ABCDEF";
 

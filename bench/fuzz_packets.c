@@ -13,20 +13,11 @@
 #include <sys/mman.h>
 #include "packets.h"
 
+#include "random.h"
+
 enum { PAGE = 4096, MOST = 2048, GUARD = 0xA5 };
 
-static uint64_t seed, state, call;
-
-static uint64_t next_word(void)
-{
-    state += 0x9e3779b97f4a7c15u;
-    uint64_t z = state;
-    z = (z ^ (z >> 30)) * 0xbf58476d1ce4e5b9u;
-    z = (z ^ (z >> 27)) * 0x94d049bb133111ebu;
-    return z ^ (z >> 31);
-}
-
-static uint64_t below(uint64_t n) { return (uint64_t)(((unsigned __int128)next_word() * n) >> 64); }
+static uint64_t seed, call;
 
 static void fault(const char *what)
 {

@@ -132,7 +132,7 @@ pub fn sample() {
 
 mod sampled {
     use super::*;
-    use crate::oracle::{caught, rows_of_graph};
+    use crate::oracle::{caught, rows_of_graph, rows_since};
     use ctsim::network::NetworkGraph;
     use rand_chacha::ChaCha8Rng;
 
@@ -190,18 +190,7 @@ mod sampled {
             }
             let mut rng = ChaCha8Rng::of_words(&self.words, self.cursor);
             let (end, goal, nodes, metrics, next_row) = caught(|| self.room.run(slots, &mut rng)).map_err(|_| 16u64)?;
-            let due: Vec<u64> = metrics.snapshots[self.room.metrics.snapshots.len()..]
-                .iter()
-                .flat_map(|s| {
-                    [
-                        s.slot,
-                        s.nodes_goal_reached as u64,
-                        s.nodes_listening as u64,
-                        s.nodes_flooding as u64,
-                        s.nodes_sleeping as u64,
-                    ]
-                })
-                .collect();
+            let due = rows_since(&metrics, self.room.metrics.snapshots.len());
             let at = self.used as usize * 5;
             if at + due.len() > numbers {
                 return Err(17);
@@ -316,7 +305,7 @@ pub use compared::run;
 mod compared {
     use super::*;
     use crate::graph::random_rows_of;
-    use crate::oracle::{caught, graph_of_rows, rows_of_graph};
+    use crate::oracle::{caught, graph_of_rows, rows_of_graph, rows_since};
     use crate::tally::Tally;
     use crate::time;
     use crate::Options;
@@ -476,18 +465,7 @@ mod compared {
     fn rust_run(room: &Capture, rng: &ChaCha8Rng, slots: u64) -> Option<Ran> {
         let mut g = rng.clone();
         let (end, goal, nodes, metrics, next_row) = caught(|| room.run(slots, &mut g)).ok()?;
-        let rows = metrics.snapshots[room.metrics.snapshots.len()..]
-            .iter()
-            .flat_map(|s| {
-                [
-                    s.slot,
-                    s.nodes_goal_reached as u64,
-                    s.nodes_listening as u64,
-                    s.nodes_flooding as u64,
-                    s.nodes_sleeping as u64,
-                ]
-            })
-            .collect();
+        let rows = rows_since(&metrics, room.metrics.snapshots.len());
         let mut m = [0; 8];
         m[2] = metrics.ce_timeouts;
         m[3] = metrics.rx_attempts;

@@ -105,6 +105,52 @@ pub fn votes_yes(term: u64, position: usize, p: f64, seed: u64) -> bool {
     packet.phase != ctsim::protocol::two_pc_ce::TwoPcCePhase::Aborted
 }
 
+// ---- what the program's metrics hold ----
+
+/// The rows written since there were `from` of them, five numbers each.
+#[allow(dead_code)]
+pub fn rows_since(m: &MetricsCollector, from: usize) -> Vec<u64> {
+    m.snapshots[from..]
+        .iter()
+        .flat_map(|s| {
+            [
+                s.slot,
+                s.nodes_goal_reached as u64,
+                s.nodes_listening as u64,
+                s.nodes_flooding as u64,
+                s.nodes_sleeping as u64,
+            ]
+        })
+        .collect()
+}
+
+/// The counts, in the order in which ours stand in a list of numbers.
+#[allow(dead_code)]
+pub fn counts(m: &MetricsCollector) -> [u64; 8] {
+    [
+        m.nacks_sent,
+        m.piggybacks_sent,
+        m.ce_timeouts,
+        m.rx_attempts,
+        m.rx_success,
+        m.flood_rounds,
+        m.flood_nodes_total,
+        m.flood_nodes_covered,
+    ]
+}
+
+/// The records: transaction, slots at which it was generated and recorded, and whether it was committed.
+#[allow(dead_code)]
+pub fn records(m: &MetricsCollector) -> Vec<(u64, u64, u64, bool)> {
+    m.proposals
+        .iter()
+        .map(|p| {
+            let yes = p.outcome == ProposalOutcome::Committed;
+            (p.proposal_id as u64, p.start_slot, p.end_slot, yes)
+        })
+        .collect()
+}
+
 // ---- capture rooms ----
 
 pub struct Capture {

@@ -1,12 +1,11 @@
 //! Part `pipeline`: pipeline rooms round by round, against the Rust's rounds driven one by one and against its own `run`.
 #![cfg_attr(not(feature = "pipeline"), allow(dead_code))]
 
-use crate::oracle::{config, graph_of_rows, rows_of_graph, PipelineRoom};
+use crate::oracle::{config, counts, graph_of_rows, records, rows_of_graph, rows_since, PipelineRoom};
 use crate::prng::Prng;
 use ctsim::network::NetworkGraph;
 use ctsim::node::NodeState;
 use ctsim::protocol::two_pc_pipeline::TwoPcState;
-use ctsim::protocol::ProposalOutcome;
 
 const FOREVER: u64 = u32::MAX as u64;
 
@@ -159,39 +158,11 @@ impl View {
                 half => panic!("half a piggyback: {half:?}"),
             },
             generated: r.door.tx_counter(),
-            records: m
-                .proposals
-                .iter()
-                .map(|p| {
-                    let yes = p.outcome == ProposalOutcome::Committed;
-                    (p.proposal_id as u64, p.start_slot, p.end_slot, yes)
-                })
-                .collect(),
-            metrics: [
-                m.nacks_sent,
-                m.piggybacks_sent,
-                m.ce_timeouts,
-                m.rx_attempts,
-                m.rx_success,
-                m.flood_rounds,
-                m.flood_nodes_total,
-                m.flood_nodes_covered,
-            ],
-            rows: rows(r),
+            records: records(m),
+            metrics: counts(m),
+            rows: rows_since(m, 0),
         }
     }
-}
-
-/// The rows of the Rust's snapshots, five numbers each.
-pub fn rows(r: &PipelineRoom) -> Vec<u64> {
-    let mut out = Vec::new();
-    for s in &r.core.metrics.snapshots {
-        out.push(s.slot);
-        for k in [s.nodes_goal_reached, s.nodes_listening, s.nodes_flooding, s.nodes_sleeping] {
-            out.push(k as u64);
-        }
-    }
-    out
 }
 
 fn topology(r: &mut Prng, n: usize) -> NetworkGraph {
@@ -866,7 +837,7 @@ mod compared {
             self.is("records", &got.records, &due.records);
             self.is("metrics", &got.metrics, &due.metrics);
             let new = self.ours.rows[5 * used..5 * after].to_vec();
-            let theirs = super::rows(&self.theirs)[5 * used..].to_vec();
+            let theirs = rows_since(&self.theirs.core.metrics, used);
             self.is("rows", &new, &theirs);
             let rest = self.ours.rows[5 * after..].iter().all(|x| *x == WAS);
             self.is("the rest of the buffer", &rest, &true);
@@ -992,35 +963,9 @@ mod compared {
             let sums = v.counts.iter().fold((0, 0, 0), |a, c| (a.0 + c.0, a.1 + c.1, a.2 + c.2));
             self.is("own run: counts", &sums, &(l, f, s));
             self.is("own run: words", &(v.clock.5 - case.cursor), &drawn);
-            let counted = [
-                m.nacks_sent,
-                m.piggybacks_sent,
-                m.ce_timeouts,
-                m.rx_attempts,
-                m.rx_success,
-                m.flood_rounds,
-                m.flood_nodes_total,
-                m.flood_nodes_covered,
-            ];
-            self.is("own run: metrics", &v.metrics, &counted);
-            let records: Vec<(u64, u64, u64, bool)> = m
-                .proposals
-                .iter()
-                .map(|p| {
-                    let yes = p.outcome == ProposalOutcome::Committed;
-                    (p.proposal_id as u64, p.start_slot, p.end_slot, yes)
-                })
-                .collect();
-            self.is("own run: records", &v.records, &records);
-            let rows: Vec<[u64; 5]> = m
-                .snapshots
-                .iter()
-                .map(|s| {
-                    let k = [s.nodes_goal_reached, s.nodes_listening, s.nodes_flooding, s.nodes_sleeping];
-                    [s.slot, k[0] as u64, k[1] as u64, k[2] as u64, k[3] as u64]
-                })
-                .collect();
-            self.is("own run: rows", &v.rows, &rows.concat());
+            self.is("own run: metrics", &v.metrics, &counts(&m));
+            self.is("own run: records", &v.records, &records(&m));
+            self.is("own run: rows", &v.rows, &rows_since(&m, 0));
             self.met.add("rooms held to the Rust's own run", 1);
         }
 

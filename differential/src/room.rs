@@ -4,13 +4,12 @@
 
 use crate::capture::{node_numbers, payload_numbers, PAYLOAD as HELD_NUMBERS};
 use crate::graph::random_rows_of;
-use crate::oracle::{caught, config, graph_of_rows, rows_of_graph, Capture, PipelineRoom};
+use crate::oracle::{caught, config, graph_of_rows, rows_of_graph, rows_since, Capture, PipelineRoom};
 use crate::pipeline::numbers::{view, COUNT, CURSOR, METRICS, NODES, PAYLOAD, PAYLOADS, STATE, STATES, USED};
 use crate::pipeline::View;
 use crate::prng::Prng;
 use crate::tally::Tally;
 use crate::Options;
-use ctsim::metrics::MetricsCollector;
 use ctsim::network::NetworkGraph;
 use rand_chacha::ChaCha8Rng;
 use std::collections::BTreeMap;
@@ -200,21 +199,6 @@ impl Setup {
     }
 }
 
-fn rows_of(m: &MetricsCollector, from: usize) -> Vec<u64> {
-    m.snapshots[from..]
-        .iter()
-        .flat_map(|s| {
-            [
-                s.slot,
-                s.nodes_goal_reached as u64,
-                s.nodes_listening as u64,
-                s.nodes_flooding as u64,
-                s.nodes_sleeping as u64,
-            ]
-        })
-        .collect()
-}
-
 /// The Rust's room. That of a pipeline can't be copied: after a round that is to be refused it is opened anew, and its accepted rounds are run again.
 enum Theirs {
     Capture { room: Capture, proposed: bool },
@@ -320,7 +304,7 @@ impl<'a> Side<'a> {
                 let Ok(ran) = caught(|| room.run(room.round_slots, &mut rng.clone())) else {
                     return refused(16);
                 };
-                let new = rows_of(&ran.3, before);
+                let new = rows_since(&ran.3, before);
                 if self.fits(c.used, new.len()) {
                     let Theirs::Capture { room, .. } = &mut self.room else {
                         unreachable!()
@@ -338,7 +322,7 @@ impl<'a> Side<'a> {
                     self.replay();
                     return refused(16);
                 }
-                let (new, cursor) = (rows_of(&room.core.metrics, before), room.core.rng.cursor());
+                let (new, cursor) = (rows_since(&room.core.metrics, before), room.core.rng.cursor());
                 cursors.push(c.cursor);
                 if !self.fits(c.used, new.len()) {
                     let Theirs::Pipeline { cursors, .. } = &mut self.room else {
