@@ -12,7 +12,7 @@ use Rattle.texts.specs.Decimal.{decimal, decimalF}
 use Rattle.texts.specs.Put.{written}
 use Rattle.texts.specs.Readers.{listText}
 use Rattle.graph.specs.Links.{graphBy, builtOf, nextRule, aheadOf, linkOf, topologyOf, inside, rowsOf}
-use Rattle.packets.specs.Merging.{filledOf, markedOf, onlyOf, unanimousOf, rankOf, ensureOf, decidedOf, acknowledgedOf, voicedOf, settledOf, adoptedOf, raisedOf, ownOf, sameTermOf, heardOf, mergedBy, mergeOf, proposalData, proposalOf, standingBy, goalOf, canSleepOf, allHold, networkGoalOf}
+use Rattle.packets.specs.Merging.{filledOf, markedOf, onlyOf, unanimousOf, rankOf, ensureOf, decidedOf, acknowledgedOf, voicedOf, settledOf, adoptedOf, raisedOf, ownOf, sameTermOf, outdated, heardOf, mergedBy, mergeOf, proposalData, proposalOf, standingBy, goalOf, canSleepOf, allHold, networkGoalOf}
 use Rattle.packets.specs.Packets.{bitmapText, dataText, ceText, limits}
 use Rattle.packets.specs.Votes.{noOf}
 use Rattle.engines.specs.Capture.{begun, goalMet, acted, finished, slotOf, rowsDue, startOf, afterRound, refusalOf, answerOf}
@@ -35,7 +35,7 @@ alpha = 48 ∷ 50 ∷ 48 ∷ 50 ∷ 48 ∷ 50 ∷ 48 ∷ 48 ∷ 48 ∷ 49 ∷ 48
 
 -- ALPHA 172
 alpha-listed : listingOf alpha ≡ 65 ∷ 76 ∷ 80 ∷ 72 ∷ 65 ∷ 32 ∷ 49 ∷ 55 ∷ 50 ∷ []
-unfolding alpha listingOf textOf frameOf isFrame allHex allOf isKind numberAt hasName nameLength nameFits nameByte playedOf linkedBy topologyOf builtOf playedIn openingOf openOf openRefusal rowsOf graphBy filled tabulate inside marks linkOf aheadOf nextRule lossAccepted le ofBits settingsOf endOf playOf upto captureTurn proposing proposeOf proposeRefusal newRoom capturing Rattle.room.specs.Rooms.captureOf captureRefusal proposedIn capturedBy answerOf refusalOf startOf roundLength afterRound go slotOf finished networkGoalOf allHold standingBy begun rankOf proposalOf adoptedOf settledOf voicedOf ensureOf noOf acknowledgedOf unanimousOf markedOf filledOf acted toldAll toldAt hearingOf planOf planAfter capturesOf overMarks targetsOf setsOf listens tickedAll tickAt startedAll ticked started coinsOf tossed1 timedOut captureAt turnedAll turnOf turned nextState canSleepOf goalOf whom captureOf heardFrom firstKept sendersOf floods noteAt examine1 isLossy shuffled downto mergeOf mergedBy heardOf decidedOf onlyOf withMark sameTermOf ownOf raisedOf goalMet tallied tell rowsDue isDue nextRow sentText nameOf decimal afterCapture sentOf sentAt payloadLen limits proposalData ceText dataText listText written bitmapText marksOf outcomeOf
+unfolding alpha listingOf textOf frameOf isFrame allHex allOf isKind numberAt hasName nameLength nameFits nameByte playedOf linkedBy topologyOf builtOf playedIn openingOf openOf openRefusal rowsOf graphBy filled tabulate inside marks linkOf aheadOf nextRule lossAccepted le ofBits settingsOf endOf playOf upto captureTurn proposing proposeOf proposeRefusal newRoom capturing Rattle.room.specs.Rooms.captureOf captureRefusal proposedIn capturedBy answerOf refusalOf startOf roundLength afterRound go slotOf finished networkGoalOf allHold standingBy begun rankOf proposalOf adoptedOf settledOf voicedOf ensureOf noOf acknowledgedOf unanimousOf markedOf filledOf acted toldAll toldAt hearingOf planOf planAfter capturesOf overMarks targetsOf setsOf listens tickedAll tickAt startedAll ticked started coinsOf tossed1 timedOut captureAt turnedAll turnOf turned nextState canSleepOf goalOf whom captureOf heardFrom firstKept sendersOf floods noteAt examine1 isLossy shuffled downto mergeOf mergedBy heardOf outdated decidedOf onlyOf withMark sameTermOf ownOf raisedOf goalMet tallied tell rowsDue isDue nextRow sentText nameOf decimal afterCapture sentOf sentAt payloadLen limits proposalData ceText dataText listText written bitmapText marksOf outcomeOf
 alpha-listed = refl
 
 -- an empty line: refused 1

@@ -23,6 +23,7 @@ use Rattle.packets.specs.Merging.{
   ownOf,
   sameTermOf,
   redundant,
+  outdated,
   newInfo,
   concluded,
   heardOf,
@@ -127,7 +128,7 @@ module _ (nay : Noes) (n v : ℕ) where
         held = refl;
         packet = higher (l .packet) (adoptedOf nay n v p) (omega (arith, ltb-true (l .packet .term) (p .term) x, adopted-rose p .term));
       })
-      (λ x. either-cases (λ (m : Merged). Grown l (m .payload)) (ltb (p .term) (l .packet .term))
+      (λ x. either-cases (λ (m : Merged). Grown l (m .payload)) (outdated (p .term) (l .packet .term))
       (λ y. same)
       (λ y. either-cases (λ (m : Merged). Grown l (m .payload)) (sameTermOf nay n v (l .packet) p .news)
       (λ z. record { held = refl; packet = rose-grew (same-rose (l .packet) p) })
@@ -152,7 +153,7 @@ merges-keep-term nay n v l r k h e =
     rw (h, k)
     (either-cases (λ (m : Merged). m .payload .packet .term ≡ l .packet .term) (ltb (l .packet .term) (r .packet .term))
     (λ x. absurd (omega (arith, ltb-true (l .packet .term) (r .packet .term) x)))
-    (λ x. either-cases (λ (m : Merged). m .payload .packet .term ≡ l .packet .term) (ltb (r .packet .term) (l .packet .term))
+    (λ x. either-cases (λ (m : Merged). m .payload .packet .term ≡ l .packet .term) (outdated (r .packet .term) (l .packet .term))
     (λ y. refl)
     (λ y. either-cases (λ (m : Merged). m .payload .packet .term ≡ l .packet .term) (sameTermOf nay n v (l .packet) (r .packet) .news)
     (λ z. same-rose nay n v (l .packet) (r .packet) .term)
@@ -185,7 +186,7 @@ heard-keeps nay n v l p Unreadable = λ e. refl
 heard-keeps nay n v l p Packet =
     either-cases (Keeps l) (ltb (l .packet .term) (p .term))
     (λ x e. told-apart e)
-    (λ x. either-cases (Keeps l) (ltb (p .term) (l .packet .term))
+    (λ x. either-cases (Keeps l) (outdated (p .term) (l .packet .term))
     (λ y e. refl)
     (λ y. either-cases (Keeps l) (sameTermOf nay n v (l .packet) p .news) (λ z e. told-apart e) (λ z e. refl)))
 

@@ -17,6 +17,7 @@ use Rattle.packets.specs.Merging.{
   raisedOf,
   ownOf,
   sameTermOf,
+  outdated,
   heardOf,
   mergedBy,
   mergeOf,
@@ -84,7 +85,7 @@ module _
   heard-keeps l p Packet e s q =
       either-cases (λ (m : Merged). Holds (m .payload)) (ltb (l .packet .term) (p .term))
       (λ x k. adopted-keeps p q)
-      (λ x. either-cases (λ (m : Merged). Holds (m .payload)) (ltb (p .term) (l .packet .term))
+      (λ x. either-cases (λ (m : Merged). Holds (m .payload)) (outdated (p .term) (l .packet .term))
       (λ y. s)
       (λ y. either-cases (λ (m : Merged). Holds (m .payload)) (sameTermOf nay n v (l .packet) p .news)
       (λ z k. same-keeps (l .packet) p (s e) q)

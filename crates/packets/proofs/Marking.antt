@@ -30,6 +30,7 @@ use Rattle.packets.specs.Merging.{
   ownOf,
   sameTermOf,
   redundant,
+  outdated,
   newInfo,
   concluded,
   heardOf,
@@ -176,7 +177,7 @@ module _ (nay : Noes) (n v : ℕ) (inside : v < n) (few : n ≤ 64) where
   heard-own l p Packet =
       either-cases News (ltb (l .packet .term) (p .term))
       (λ x e. adopted-own p)
-      (λ x. either-cases News (ltb (p .term) (l .packet .term))
+      (λ x. either-cases News (outdated (p .term) (l .packet .term))
       (λ y e. told-apart e)
       (λ y. either-cases News (sameTermOf nay n v (l .packet) p .news) (λ z e. same-own (l .packet) p) (λ z e. told-apart e)))
 

@@ -31,6 +31,7 @@ use Rattle.packets.specs.Merging.{
   raisedOf,
   ownOf,
   sameTermOf,
+  outdated,
   heardOf,
   mergedBy,
   mergeOf,
@@ -46,7 +47,7 @@ use Rattle.packets.specs.Merging.{
 use Rattle.packets.specs.MergeCases.{MergeTable, AllNo, NanYes}
 
 pub merge-table : MergeTable
-unfolding noOf hashOf shareOf div ofInt ofBits lt le marks anyOf allOf decimal decimalF written filledOf markedOf onlyOf joinOf joinNews unanimousOf rankOf ensureOf decidedOf acknowledgedOf voicedOf settledOf adoptedOf raisedOf ownOf sameTermOf heardOf mergedBy mergeOf proposalData proposalOf standingBy goalOf canSleepOf allHold networkGoalOf outcomeOf
+unfolding noOf hashOf shareOf div ofInt ofBits lt le marks anyOf allOf decimal decimalF written filledOf markedOf onlyOf joinOf joinNews unanimousOf rankOf ensureOf decidedOf acknowledgedOf voicedOf settledOf adoptedOf raisedOf ownOf sameTermOf outdated heardOf mergedBy mergeOf proposalData proposalOf standingBy goalOf canSleepOf allHold networkGoalOf outcomeOf
 merge-table = (
   (refl, refl),
   (refl, refl),

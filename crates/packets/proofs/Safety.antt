@@ -33,6 +33,7 @@ use Rattle.packets.specs.Merging.{
   ownOf,
   sameTermOf,
   redundant,
+  outdated,
   newInfo,
   concluded,
   heardOf,
@@ -178,14 +179,14 @@ module _ (nay : Noes) (n : ℕ) where
 
   heard-sound : (v : ℕ) → v < n → (l : Payload) (p : CeTwoPcPacket) (h : Held) → l .held ≡ h → SoundHeld nay n l → Sound nay n p
       → SoundHeld nay n (heardOf nay n v l p h .payload)
-  unfolding heardOf
+  unfolding heardOf outdated
   heard-sound v lv l p Empty e s q = adopted-sound v lv p q
   heard-sound v lv l p Unreadable e s q = s
   heard-sound v lv l p Packet e s q =
       let t : Sound nay n (l .packet) = subst (SoundBy nay n (l .packet)) e s in
       either-cases (λ (m : Merged). SoundHeld nay n (m .payload)) (ltb (l .packet .term) (p .term))
       (λ x. adopted-sound v lv p q)
-      (λ x. either-cases (λ (m : Merged). SoundHeld nay n (m .payload)) (ltb (p .term) (l .packet .term))
+      (λ x. either-cases (λ (m : Merged). SoundHeld nay n (m .payload)) (outdated (p .term) (l .packet .term))
       (λ y. s)
       (λ y. either-cases (λ (m : Merged). SoundHeld nay n (m .payload)) (sameTermOf nay n v (l .packet) p .news)
       (λ z. same-sound v lv (l .packet) p (equal (l .packet .term) (p .term) x y) t q)

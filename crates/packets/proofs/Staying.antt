@@ -26,6 +26,7 @@ use Rattle.packets.specs.Merging.{
   raisedOf,
   ownOf,
   sameTermOf,
+  outdated,
   heardOf,
   mergedBy,
   mergeOf,
@@ -165,7 +166,7 @@ module _ (nay : Noes) (n v : ℕ) where
   heard-stays l p Packet k =
       either-cases (Kept l) (ltb (l .packet .term) (p .term))
       (λ x t. absurd (omega (arith, ltb-true (l .packet .term) (p .term) x, adopted-rose nay n v p .term)))
-      (λ x. either-cases (Kept l) (ltb (p .term) (l .packet .term))
+      (λ x. either-cases (Kept l) (outdated (p .term) (l .packet .term))
       (λ y t e i h m. m)
       (λ y. either-cases (Kept l) (sameTermOf nay n v (l .packet) p .news) (λ z t. same-stays (l .packet) p) (λ z t e i h m. m)))
 

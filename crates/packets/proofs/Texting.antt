@@ -17,7 +17,7 @@ use Rattle.packets.specs.Packets.{ceText, ceWithin, limits, ValidCe}
 use Rattle.packets.specs.Reading.{ceRead, ceReadOf, ceNo}
 use Rattle.packets.specs.Writing.{wroteOf, leftOf}
 use Rattle.packets.specs.Votes.{noOf}
-use Rattle.packets.specs.Merging.{Noes, sameTermOf, heardOf, mergedBy, mergeOf}
+use Rattle.packets.specs.Merging.{Noes, sameTermOf, outdated, heardOf, mergedBy, mergeOf}
 use Rattle.packets.specs.Sound.{ValidHeld}
 use Rattle.packets.specs.Desk.{readAs, payloadOf, refusalOf, Desk, rewritten, answered, deskOf, TextsFollow, Refusals}
 use Rattle.packets.specs.declared.CeTwoPcPacket.{CeTwoPcPacket}
@@ -72,7 +72,7 @@ heard-held nay n v l p Unreadable = λ e. told-apart e
 heard-held nay n v l p Packet =
     either-cases NewsHeld (ltb (l .packet .term) (p .term))
     (λ x e. refl)
-    (λ x. either-cases NewsHeld (ltb (p .term) (l .packet .term))
+    (λ x. either-cases NewsHeld (outdated (p .term) (l .packet .term))
     (λ y e. told-apart e)
     (λ y. either-cases NewsHeld (sameTermOf nay n v (l .packet) p .news) (λ z e. refl) (λ z e. told-apart e)))
 

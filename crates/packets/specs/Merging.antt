@@ -134,13 +134,17 @@ newInfo p = record { result = NewInfo; payload = record { held = Packet; packet 
 abbrev pub concluded : Payload → Draft → Merged
 concluded l d = either (d .news) (newInfo (d .packet)) (redundant l)
 
+-- a packet of term t says nothing to a position that holds one of term u
+unfoldable pub outdated : ℕ → ℕ → Bool
+outdated t u = ltb t u
+
 -- the received text is a packet p: an empty local adopts, an unreadable one is left; a higher term is adopted, a lower one left
 unfoldable pub heardOf : Noes → ℕ → ℕ → Payload → CeTwoPcPacket → Held → Merged
 heardOf nay n v l p Empty = newInfo (adoptedOf nay n v p)
 heardOf nay n v l p Unreadable = redundant l
 heardOf nay n v l p Packet =
     either (ltb (l .packet .term) (p .term)) (newInfo (adoptedOf nay n v p))
-    (either (ltb (p .term) (l .packet .term)) (redundant l) (concluded l (sameTermOf nay n v (l .packet) p)))
+    (either (outdated (p .term) (l .packet .term)) (redundant l) (concluded l (sameTermOf nay n v (l .packet) p)))
 
 -- a received text that is no packet, an empty one with it, is redundant
 unfoldable pub mergedBy : Noes → ℕ → ℕ → Payload → CeTwoPcPacket → Held → Merged

@@ -14,7 +14,7 @@ ghost use Prim.Native.Nat.{max};
 ghost use lib.Dec.{ltb};
 ghost use Rattle.marks.specs.Marks.{has, marks};
 ghost use Rattle.packets.specs.Votes.{noOf};
-ghost use Rattle.packets.specs.Merging.{entry, filledOf, markedOf, onlyOf, joinOf, joinNews, unanimousOf, rankOf, withState, ensureOf, decidedOf, acknowledgedOf, voicedOf, settled, adoptedOf, raisedOf, ownOf, sameTermOf, redundant, newInfo, concluded, heardOf, mergeOf, proposalData, blank, proposalOf, standingOf, goalOf, canSleepOf, allHold, networkGoalOf, outcomeOf};
+ghost use Rattle.packets.specs.Merging.{entry, filledOf, markedOf, onlyOf, joinOf, joinNews, unanimousOf, rankOf, withState, ensureOf, decidedOf, acknowledgedOf, voicedOf, settled, adoptedOf, raisedOf, ownOf, sameTermOf, redundant, newInfo, concluded, outdated, heardOf, mergeOf, proposalData, blank, proposalOf, standingOf, goalOf, canSleepOf, allHold, networkGoalOf, outcomeOf};
 ghost use Rattle.packets.specs.declared.TwoPcPhase.the-variants.{Committed, Aborted};
 
 pub enum MergeResult {
@@ -317,6 +317,13 @@ fn conclude(local: Payload, d: Draft) -> Merged
     redundant_merge(local)
 }
 
+// What is left of an earlier proposal must not count for this one.
+fn is_outdated(term: u64, held: u64) -> bool
+    ensures { λ r. ⌜ r ≡ outdated term held ⌝ }
+{
+    term < held
+}
+
 // A packet was received. An empty local takes it, and so does one of a lower term.
 fn hear(voting: Voting, local: Payload, p: CeTwoPcPacket, node_id: usize) -> Merged
     ensures { λ r. ⌜ r ≡ heardOf (noOf voting) (voting .n) «node_id» local p (local .held) ⌝ }
@@ -330,7 +337,7 @@ fn hear(voting: Voting, local: Payload, p: CeTwoPcPacket, node_id: usize) -> Mer
             if l.term < p.term {
                 return new_info(adopt_with_local_vote(voting, p, node_id));
             }
-            if p.term < l.term {
+            if is_outdated(p.term, l.term) {
                 return redundant_merge(local);
             }
             let d = merge_same_term(voting, l, p, node_id);

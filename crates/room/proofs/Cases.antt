@@ -17,7 +17,7 @@ use Rattle.graph.specs.Paths.{diameterOf, lengthOf}
 use Rattle.packets.specs.Packets.{ceText, bitmapText, dataText, limits, pipelineText}
 use Rattle.packets.specs.Desk.{payloadOf}
 use Rattle.packets.specs.Votes.{noOf, hashOf, shareOf}
-use Rattle.packets.specs.Merging.{filledOf, markedOf, onlyOf, joinOf, joinNews, unanimousOf, rankOf, ensureOf, decidedOf, acknowledgedOf, voicedOf, settledOf, adoptedOf, raisedOf, ownOf, sameTermOf, heardOf, mergedBy, mergeOf, proposalData, proposalOf, standingBy, goalOf, canSleepOf, allHold, networkGoalOf, outcomeOf}
+use Rattle.packets.specs.Merging.{filledOf, markedOf, onlyOf, joinOf, joinNews, unanimousOf, rankOf, ensureOf, decidedOf, acknowledgedOf, voicedOf, settledOf, adoptedOf, raisedOf, ownOf, sameTermOf, outdated, heardOf, mergedBy, mergeOf, proposalData, proposalOf, standingBy, goalOf, canSleepOf, allHold, networkGoalOf, outcomeOf}
 use Rattle.packets.proofs.MergeCases.{all-no}
 use Rattle.engines.specs.Settings.{lossAccepted, isLossy}
 use Rattle.engines.specs.Marked.{overMarks, withMark}
@@ -60,7 +60,7 @@ one kind links s transactions term interval bound l e = rw (l, e, one-not)
 -- ---- the table
 
 pub marked-cases : MarkedCases
-unfolding upto downto go tell tabulate filled marks anyOf allOf countOf marksOf decimal decimalF written listText itemsText graphBy builtOf nextRule meshRule aheadOf linkOf topologyOf inside rowsOf ceText bitmapText dataText limits noOf hashOf shareOf filledOf markedOf onlyOf joinOf joinNews unanimousOf rankOf ensureOf decidedOf acknowledgedOf voicedOf settledOf adoptedOf raisedOf ownOf sameTermOf heardOf mergedBy mergeOf proposalData proposalOf standingBy goalOf canSleepOf allHold networkGoalOf outcomeOf lossAccepted isLossy overMarks withMark nextOf unitOf coinOf lostOf pickOf swapStep shuffled ticked tickAt tickedAll listens floods sleeps setsOf highestProgress rowOf isDue nextRow timedOut tossed1 coinsOf noteAt sendersOf examine1 firstKept heardFrom heardOfPlan whom tallied captureAt targetsOf capturesOf planAfter planOf started startedAll nextState turned turnOf turnedAll countedSlot payloadLen sentAt sentOf hearingOf toldAt toldAll begun goalMet acted finished slotOf rowsDue startOf afterRound refusalOf answerOf openRefusal roundLength newRoom openOf proposeRefusal proposedIn proposeOf raised raisedAll afterCapture captureRefusal capturedBy captureOf stagesFrom captureSlots ofBits ofFields eq lt le div ofInt round units odd span climb size resetRound rowsRefused framed hearAt hearersOf sendAt floodPlan afterFlood afterListen nextNode turnAt floodTurned nobodyFloods sentAfter dueAfter floodSlot resetAt resetAll floodStart floodRound joinMarks commonMarks withoutMark loggedAt loggedOf outcomeAt loggedOutcome pushed finalizeTx allVoted openTx votesAt mergeVotes mergeAbort gapAt gapOf nackOf voteOf isJudged judgeAt judged fastOf abortAll ownVote dataOf packetOf samePacket recordTx isFresh beginTx recordDue recordJudged abortOf knownVotes roundPacket prepareRound isNew hearNew mergeRound recordAborts takeUp isAnswer answerNack processOne partsOf processAt processAll shorterAt shortestLog progressAt progressAll stopsAt deliverAll isCovered coverAt coveredOf initiatorOf preparing floodConf floodFrom closeRound floodOf runRound newPipeline pipelineText diameterOf lengthOf floodLength earlyOf lateOf lateAnswer roundAnswer pipelineRefusal ranBy pipelineOf pipelineSlots payloadOf
+unfolding upto downto go tell tabulate filled marks anyOf allOf countOf marksOf decimal decimalF written listText itemsText graphBy builtOf nextRule meshRule aheadOf linkOf topologyOf inside rowsOf ceText bitmapText dataText limits noOf hashOf shareOf filledOf markedOf onlyOf joinOf joinNews unanimousOf rankOf ensureOf decidedOf acknowledgedOf voicedOf settledOf adoptedOf raisedOf ownOf sameTermOf outdated heardOf mergedBy mergeOf proposalData proposalOf standingBy goalOf canSleepOf allHold networkGoalOf outcomeOf lossAccepted isLossy overMarks withMark nextOf unitOf coinOf lostOf pickOf swapStep shuffled ticked tickAt tickedAll listens floods sleeps setsOf highestProgress rowOf isDue nextRow timedOut tossed1 coinsOf noteAt sendersOf examine1 firstKept heardFrom heardOfPlan whom tallied captureAt targetsOf capturesOf planAfter planOf started startedAll nextState turned turnOf turnedAll countedSlot payloadLen sentAt sentOf hearingOf toldAt toldAll begun goalMet acted finished slotOf rowsDue startOf afterRound refusalOf answerOf openRefusal roundLength newRoom openOf proposeRefusal proposedIn proposeOf raised raisedAll afterCapture captureRefusal capturedBy captureOf stagesFrom captureSlots ofBits ofFields eq lt le div ofInt round units odd span climb size resetRound rowsRefused framed hearAt hearersOf sendAt floodPlan afterFlood afterListen nextNode turnAt floodTurned nobodyFloods sentAfter dueAfter floodSlot resetAt resetAll floodStart floodRound joinMarks commonMarks withoutMark loggedAt loggedOf outcomeAt loggedOutcome pushed finalizeTx allVoted openTx votesAt mergeVotes mergeAbort gapAt gapOf nackOf voteOf isJudged judgeAt judged fastOf abortAll ownVote dataOf packetOf samePacket recordTx isFresh beginTx recordDue recordJudged abortOf knownVotes roundPacket prepareRound isNew hearNew mergeRound recordAborts takeUp isAnswer answerNack processOne partsOf processAt processAll shorterAt shortestLog progressAt progressAll stopsAt deliverAll isCovered coverAt coveredOf initiatorOf preparing floodConf floodFrom closeRound floodOf runRound newPipeline pipelineText diameterOf lengthOf floodLength earlyOf lateOf lateAnswer roundAnswer pipelineRefusal ranBy pipelineOf pipelineSlots payloadOf
 marked-cases =
     record {
       capture-line = record {

@@ -10,7 +10,7 @@ returns c = rw (c .new-info2 .ensures, c .before .adopt-with-local-vote2 .ensure
 
 returns-2 : tie.Need-returns-2
 unfolding heardOf
-returns-2 c = rw (c .redundant-merge2 .ensures, c .before .before .before .before .before .before .before .enum-told3 .given .1, le-ltb _ _ (c .before .before .before .before .if1 .left), lt-ltb _ _ (c .before .if2 .taken))
+returns-2 c = rw (c .redundant-merge2 .ensures, c .before .before .before .before .before .before .enum-told3 .given .1, le-ltb _ _ (c .before .before .before .if1 .left), ← c .before .before .is-outdated .ensures, c .before .if2 .taken)
 
 returns-3 : tie.Need-returns-3
 unfolding heardOf
@@ -22,7 +22,7 @@ returns-4 c = rw (c .redundant-merge .ensures, c .before .enum-told2 .given .1)
 
 returns-5 : tie.Need-returns-5
 unfolding heardOf
-returns-5 c = rw (c .conclude .ensures, c .before .merge-same-term .ensures, c .before .before .before .before .before .before .before .before .enum-told3 .given .1, le-ltb _ _ (c .before .before .before .before .before .if1 .left), le-ltb _ _ (c .before .before .if2 .left))
+returns-5 c = rw (c .conclude .ensures, c .before .merge-same-term .ensures, c .before .before .before .before .before .before .before .enum-told3 .given .1, le-ltb _ _ (c .before .before .before .before .if1 .left), ← c .before .before .before .is-outdated .ensures, c .before .before .if2 .left)
 
 pub hear-spec : {M : Type 1} → statement M
 hear-spec =
@@ -37,6 +37,7 @@ hear-spec =
     (λ c κs. search needs)
     (λ c κs. search needs)
     returns
+    (λ c κs. search needs)
     (λ c κs. search needs)
     returns-2
     (λ c κs. search needs)
