@@ -11,10 +11,10 @@ use engines::console;
 use engines::numbers;
 use engines::payloads;
 use graph::network::NetworkGraph;
-use packets::merging;
-use packets::merging::Held;
-use packets::merging::Payload;
-use packets::votes::Voting;
+use merges::merging;
+use merges::merging::Held;
+use merges::merging::Payload;
+use merges::votes::Voting;
 
 // The numbers of a line, and the number that is being read.
 struct Line {

@@ -7,7 +7,7 @@ use native.Mathlib.Omega.{arith}
 use lib.ListN.{length, take, getD, set, replicate}
 use lib.Seq.{sets, take-suc, length-take-le, length-sets, set-out, ext-getD}
 use Rattle.loops.specs.Table.{tabulate, filled, filled-at, length-filled}
-use Rattle.packets.specs.declared.merging.Payload.{Payload}
+use Rattle.merges.specs.declared.merging.Payload.{Payload}
 use Rattle.engines.specs.Payloads.{payloadNumbers, putPayload}
 use Rattle.loops.specs.Stores.{sets-append}
 

@@ -8,11 +8,11 @@ use lib.Dec.{ltb}
 use lib.ListN.{set, getD}
 use borrow.Author.Tests.{ltb-true}
 use Rattle.loops.specs.Pick.{either}
-use Rattle.packets.specs.Votes.{noOf}
-use Rattle.packets.specs.Merging.{mergeOf, redundant, nobody, goalOf, canSleepOf}
-use Rattle.packets.specs.declared.votes.Voting.{Voting}
-use Rattle.packets.specs.declared.merging.Payload.{Payload}
-use Rattle.packets.specs.declared.merging.Merged.{Merged}
+use Rattle.merges.specs.Votes.{noOf}
+use Rattle.merges.specs.Merging.{mergeOf, redundant, nobody, goalOf, canSleepOf}
+use Rattle.merges.specs.declared.votes.Voting.{Voting}
+use Rattle.merges.specs.declared.merging.Payload.{Payload}
+use Rattle.merges.specs.declared.merging.Merged.{Merged}
 use Rattle.engines.specs.Ce.{isNews, hearingOf, notedIf, toldAt}
 use Rattle.engines.specs.declared.ce.Tellings.{Tellings}
 

@@ -7,7 +7,7 @@ use lib.ListN.{length}
 use lib.Seq.{sets}
 use Rattle.loops.specs.Pick.{either}
 use Rattle.loops.specs.Runs.{runs, told}
-use Rattle.packets.specs.Merging.{networkGoalOf}
+use Rattle.merges.specs.Merging.{networkGoalOf}
 use Rattle.engines.specs.Nodes.{inc, tickedAll, setsOf}
 use Rattle.engines.specs.Rows.{isDue, nextRow, rowOf, cells}
 use Rattle.engines.specs.Plan.{planOf}

@@ -9,16 +9,16 @@ use Rattle.loops.specs.Pick.{either}
 use Rattle.loops.specs.Upto.{upto}
 use Rattle.packets.specs.Packets.{ceText, ceWithin}
 use Rattle.packets.specs.Writing.{textLen}
-use Rattle.packets.specs.Votes.{noOf}
-use Rattle.packets.specs.Merging.{mergeOf, redundant, nobody, goalOf, canSleepOf}
+use Rattle.merges.specs.Votes.{noOf}
+use Rattle.merges.specs.Merging.{mergeOf, redundant, nobody, goalOf, canSleepOf}
 use Rattle.packets.specs.declared.CeTwoPcPacket.{CeTwoPcPacket}
-use Rattle.packets.specs.declared.votes.Voting.{Voting}
-use Rattle.packets.specs.declared.merging.Held.{Held}
-use Rattle.packets.specs.declared.merging.Held.the-variants.{Empty, Unreadable, Packet}
-use Rattle.packets.specs.declared.merging.Payload.{Payload}
-use Rattle.packets.specs.declared.merging.Merged.{Merged}
-use Rattle.packets.specs.declared.merging.MergeResult.{MergeResult}
-use Rattle.packets.specs.declared.merging.MergeResult.the-variants.{Redundant, NewInfo}
+use Rattle.merges.specs.declared.votes.Voting.{Voting}
+use Rattle.merges.specs.declared.merging.Held.{Held}
+use Rattle.merges.specs.declared.merging.Held.the-variants.{Empty, Unreadable, Packet}
+use Rattle.merges.specs.declared.merging.Payload.{Payload}
+use Rattle.merges.specs.declared.merging.Merged.{Merged}
+use Rattle.merges.specs.declared.merging.MergeResult.{MergeResult}
+use Rattle.merges.specs.declared.merging.MergeResult.the-variants.{Redundant, NewInfo}
 use Rattle.engines.specs.Limits.{few}
 use Rattle.engines.specs.Marked.{withMark, overMarks}
 use Rattle.engines.specs.declared.ce.Tellings.{Tellings}

@@ -9,7 +9,7 @@ use lib.ListN.{length, getD}
 use lib.Seq.{sets}
 use Rattle.loops.specs.Pick.{either}
 use Rattle.loops.specs.Table.{tabulate}
-use Rattle.packets.specs.declared.votes.Voting.{Voting}
+use Rattle.merges.specs.declared.votes.Voting.{Voting}
 use Rattle.engines.specs.Numbers.{truth, nodesAt, putNodes, metricsAt, metricsNumbers}
 use Rattle.engines.specs.Payloads.{heldAt, putHeld}
 use Rattle.engines.specs.Capture.{answerOf, bufferOf}

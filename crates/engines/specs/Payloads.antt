@@ -8,12 +8,12 @@ use lib.Seq.{sets}
 use Rattle.loops.specs.Pick.{either}
 use Rattle.loops.specs.Table.{tabulate}
 use Rattle.loops.specs.Upto.{upto}
-use Rattle.packets.specs.Console.{phaseNumber, phaseNumbered}
-use Rattle.packets.specs.Merging.{nobody}
+use Rattle.packets_c.specs.Console.{phaseNumber, phaseNumbered}
+use Rattle.merges.specs.Merging.{nobody}
 use Rattle.packets.specs.declared.CeTwoPcPacket.{CeTwoPcPacket}
-use Rattle.packets.specs.declared.merging.Held.{Held}
-use Rattle.packets.specs.declared.merging.Held.the-variants.{Empty, Unreadable, Packet}
-use Rattle.packets.specs.declared.merging.Payload.{Payload}
+use Rattle.merges.specs.declared.merging.Held.{Held}
+use Rattle.merges.specs.declared.merging.Held.the-variants.{Empty, Unreadable, Packet}
+use Rattle.merges.specs.declared.merging.Payload.{Payload}
 use Rattle.engines.specs.Numbers.{cell}
 
 abbrev pub heldNumber : Held → ℕ

@@ -15,9 +15,9 @@ use super::rows;
 use super::turns;
 use super::turns::News;
 use super::words::Draw;
-use packets::merging;
-use packets::merging::Payload;
-use packets::votes::Voting;
+use merges::merging;
+use merges::merging::Payload;
+use merges::votes::Voting;
 
 // What a round goes by and never changes. The links stand beside it.
 pub struct CeRound {

@@ -3,19 +3,19 @@
 ghost use mathlib.Core.Path.{_≡_};
 ghost use lib.Dec.{ltb};
 ghost use Rattle.loops.specs.Pick.{either};
-ghost use Rattle.packets.specs.Votes.{noOf};
-ghost use Rattle.packets.specs.Merging.{mergeOf, redundant};
+ghost use Rattle.merges.specs.Votes.{noOf};
+ghost use Rattle.merges.specs.Merging.{mergeOf, redundant};
 ghost use Rattle.engines.specs.Marked.{withMark};
 ghost use Rattle.engines.specs.Ce.{payloadLen, sentOf, isNews, toldAll};
 use super::limits;
 use graph::sets;
-use packets::merging;
-use packets::merging::Held;
-use packets::merging::MergeResult;
-use packets::merging::Merged;
-use packets::merging::Payload;
+use merges::merging;
+use merges::merging::Held;
+use merges::merging::MergeResult;
+use merges::merging::Merged;
+use merges::merging::Payload;
+use merges::votes::Voting;
 use packets::two_pc_ce;
-use packets::votes::Voting;
 
 // What positions hold after a slot, and a mark for each whose merge was new to it, who then has reached its goal, and who can
 // sleep by what it holds.

@@ -12,7 +12,7 @@ use super::capture::CeState;
 use super::numbers;
 use super::payloads;
 use super::words::Draw;
-use packets::votes::Voting;
+use merges::votes::Voting;
 
 // 2 for a count of positions outside 1 to 64, then 8 for an initiator that is none of them.
 fn asked(n: usize, initiator: usize) -> u64

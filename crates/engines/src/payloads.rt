@@ -2,15 +2,15 @@
 // and phase, the length of its data and of its bitmap, the bitmap's marks, and 32 bytes of data.
 ghost use mathlib.Core.Path.{_≡_};
 ghost use Prim.Native.Nat.{_+_, _≤_};
-ghost use Rattle.packets.specs.Console.{phaseNumber, phaseNumbered};
+ghost use Rattle.packets_c.specs.Console.{phaseNumber, phaseNumbered};
 ghost use Rattle.engines.specs.Payloads.{heldNumber, heldNumbered, bytesAt, payloadAt, heldAt, payloadNumbers, putPayload, putHeld};
 use super::numbers;
+use merges::merging::Held;
+use merges::merging::Payload;
 use packets::Bitmap;
 use packets::CeTwoPcPacket;
 use packets::Data;
 use packets::TwoPcPhase;
-use packets::merging::Held;
-use packets::merging::Payload;
 
 fn held_number(h: Held) -> u64
     ensures { λ r. ⌜ r ≡ heldNumber h ⌝ }

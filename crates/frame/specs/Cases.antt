@@ -12,9 +12,9 @@ use Rattle.texts.specs.Decimal.{decimal, decimalF}
 use Rattle.texts.specs.Put.{written}
 use Rattle.texts.specs.Readers.{listText}
 use Rattle.graph.specs.Links.{graphBy, builtOf, nextRule, aheadOf, linkOf, topologyOf, inside, rowsOf}
-use Rattle.packets.specs.Merging.{filledOf, markedOf, onlyOf, unanimousOf, rankOf, ensureOf, decidedOf, acknowledgedOf, voicedOf, settledOf, adoptedOf, raisedOf, ownOf, sameTermOf, outdated, heardOf, mergedBy, mergeOf, proposalData, proposalOf, standingBy, goalOf, canSleepOf, allHold, networkGoalOf}
-use Rattle.packets.specs.Packets.{bitmapText, dataText, ceText, limits}
-use Rattle.packets.specs.Votes.{noOf}
+use Rattle.merges.specs.Merging.{filledOf, markedOf, onlyOf, unanimousOf, rankOf, ensureOf, decidedOf, acknowledgedOf, voicedOf, settledOf, adoptedOf, raisedOf, ownOf, sameTermOf, outdated, heardOf, mergedBy, mergeOf, proposalOf, standingBy, goalOf, canSleepOf, allHold, networkGoalOf}
+use Rattle.packets.specs.Packets.{proposalData, bitmapText, dataText, ceText, limits}
+use Rattle.merges.specs.Votes.{noOf}
 use Rattle.engines.specs.Capture.{begun, goalMet, acted, finished, slotOf, rowsDue, startOf, afterRound, refusalOf, answerOf}
 use Rattle.engines.specs.Ce.{payloadLen, sentAt, sentOf, hearingOf, toldAt, toldAll}
 use Rattle.engines.specs.Marked.{overMarks, withMark}

@@ -7,7 +7,7 @@ use native.Mathlib.Omega.{arith}
 use lib.ListN.{length, replicate}
 use Rattle.texts.specs.Decimal.{decimal, decimal-word}
 use Rattle.texts.specs.Put.{written, Put, Room, room-next, put-more}
-use Rattle.packets.specs.Merging.{proposalText, proposalData}
+use Rattle.packets.specs.Packets.{proposalText, proposalData}
 use Rattle.packets.specs.declared.Data.{Data}
 
 abbrev tx : List ℕ

@@ -1,12 +1,5 @@
 pub mod Packets
 pub mod Reading
 pub mod Writing
-pub mod Votes
-pub mod Merging
-pub mod Sound
-pub mod Late
-pub mod MergeCases
 pub mod Values
 pub mod Promises
-pub mod Console
-pub mod Desk

@@ -158,3 +158,12 @@ pub record ValidPipeline (p : TwoPcPacket) : Type 0 where
   pub tx-fits : ValidTx (p .«piggyback_tx»)
   pub bytes : ValidData (p .«transaction_data»)
   pub bitmap : ValidBitmap (p .«flags_bitmap»)
+
+-- ---- the data of a proposal ("Capture round")
+
+-- "tx" and the term in decimal
+abbrev pub proposalText : ℕ → List ℕ
+proposalText t = 116 ∷ 120 ∷ decimal t
+
+unfoldable pub proposalData : ℕ → Data
+proposalData t = record { len = length (proposalText t); bytes = written (replicate 32 0) 0 (proposalText t) }

@@ -121,7 +121,7 @@ pub(crate) fn state_len(p: PiggybackState) -> usize
 }
 
 // The limits of a packet: at most 64 entries in the bitmap and at most 32 bytes of data.
-pub(crate) fn within(entries: usize, bytes: usize) -> bool
+pub fn within(entries: usize, bytes: usize) -> bool
     ensures { λ r. ⌜ r ≡ limits entries bytes ⌝ }
 {
     if entries > 64 {

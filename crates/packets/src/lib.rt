@@ -1,14 +1,9 @@
 // The text of both packet families: written into a lent buffer, measured, and read. The forms are those of two_pc_ce.rs and two_pc_pipeline.rs.
-pub mod asking;
-pub mod console;
-pub mod desk;
-mod len;
-pub mod merging;
+pub mod len;
 mod put;
 mod read;
 pub mod two_pc_ce;
 pub mod two_pc_pipeline;
-pub mod votes;
 
 // TwoPcCePhase and TwoPcState in one: both have these variants.
 pub enum TwoPcPhase {

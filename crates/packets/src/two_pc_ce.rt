@@ -15,7 +15,7 @@ ghost use mathlib.Core.Path.{_≡_};
 ghost use Prim.Native.Nat.{_≤_};
 ghost use lib.ListN.{length};
 ghost use Rattle.texts.specs.Put.{Put, Room};
-ghost use Rattle.packets.specs.Packets.{ceText, ceWithin};
+ghost use Rattle.packets.specs.Packets.{ceText, ceWithin, proposalData};
 ghost use Rattle.packets.specs.Writing.{textLen, wroteOf, leftOf};
 ghost use Rattle.packets.specs.Reading.{ceNo, ceReadOf, ceRead};
 
@@ -86,7 +86,7 @@ pub fn write_ce_packet(buf: &mut [u8], at: usize, p: CeTwoPcPacket) -> Wrote
 }
 
 // The answer to a refused text: no packet, in the place of one a packet of zeros.
-pub(crate) fn no_ce(refusal: u64) -> CeRead
+pub fn no_ce(refusal: u64) -> CeRead
     ensures { λ r. ⌜ r ≡ ceNo refusal ⌝ }
 {
     let none = Bitmap { len: 0, marks: 0 };
@@ -152,4 +152,14 @@ pub fn read_ce_packet(s: &[u8], len: usize) -> CeRead
         return no_ce(10);
     }
     read_ce(&s[..len])
+}
+
+// A new proposal's data: "tx" and the term in decimal, 22 bytes at most.
+pub fn proposal_data(term: u64) -> Data
+    ensures { λ r. ⌜ r ≡ proposalData term ⌝ }
+{
+    let mut bytes = [0u8; 32];
+    let o = put::put_all(&mut bytes, 0, b"tx");
+    let next = put::put_decimal(&mut bytes, o, term);
+    Data { len: next, bytes }
 }

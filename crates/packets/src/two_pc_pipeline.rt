@@ -105,7 +105,7 @@ pub fn write_pipeline_packet(buf: &mut [u8], at: usize, p: TwoPcPacket) -> Wrote
 }
 
 // The answer to a refused text: no packet, in the place of one a packet of zeros.
-pub(crate) fn no_pipeline(refusal: u64) -> PipelineRead
+pub fn no_pipeline(refusal: u64) -> PipelineRead
     ensures { λ r. ⌜ r ≡ pipelineNo refusal ⌝ }
 {
     let none = Bitmap { len: 0, marks: 0 };

@@ -10,7 +10,7 @@ use Rattle.marks.specs.Sets.{and-true, true-and}
 use Rattle.packets.specs.Packets.{pipelineText, ValidPipeline}
 use Rattle.packets.proofs.Promises.{pipeline-promises}
 use Rattle.loops.specs.Pick.{either}
-use Rattle.packets.specs.Console.{phaseNumber}
+use Rattle.packets_c.specs.Console.{phaseNumber}
 use Rattle.packets.specs.declared.Data.{Data}
 use Rattle.packets.specs.declared.PiggybackTx.{PiggybackTx}
 use Rattle.packets.specs.declared.PiggybackTx.the-variants as tx

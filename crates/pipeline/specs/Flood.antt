@@ -10,7 +10,7 @@ use Rattle.loops.specs.Pick.{either}
 use Rattle.loops.specs.Upto.{upto}
 use Rattle.loops.specs.Runs.{runs}
 use Rattle.marks.specs.Marks.{has, marks, countOf}
-use Rattle.packets.specs.Votes.{mul64}
+use Rattle.merges.specs.Votes.{mul64}
 use Rattle.engines.specs.Limits.{few}
 use Rattle.engines.specs.Marked.{overMarks, withMark}
 use Rattle.engines.specs.Words.{nextOf, lostOf}

@@ -12,7 +12,7 @@ use engines::rows;
 use engines::words;
 use engines::words::Draw;
 use graph::sets;
-use packets::votes;
+use merges::votes;
 
 // What no slot of a round changes: positions, repeats, loss, the interval of the rows, and the length of the packet's text.
 pub struct FloodConf {

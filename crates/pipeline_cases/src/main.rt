@@ -10,7 +10,7 @@ use engines::node::NodeState;
 use engines::settings::Settings;
 use graph::network::NetworkGraph;
 use graph::sets;
-use packets::votes;
+use merges::votes;
 use pipeline::flood;
 use pipeline::pipeline::Pipeline;
 use pipeline::pipeline::PipelineConf;

@@ -12,13 +12,13 @@ use Rattle.loops.specs.Pick.{either}
 use Rattle.graph.specs.Links.{isSize, rowsOf, inside}
 use Rattle.graph.specs.declared.network.Built.{Built}
 use Rattle.marks.specs.Marks.{allOf}
-use Rattle.packets.specs.Votes.{add64}
-use Rattle.packets.specs.Merging.{Noes, proposalOf, networkGoalOf}
-use Rattle.packets.specs.declared.merging.Held.the-variants.{Empty, Packet}
-use Rattle.packets.specs.declared.merging.Payload.{Payload}
-use Rattle.packets.proofs.Safety.{either-cases, proposes-sound}
-use Rattle.packets.proofs.Growth.{proposal-term}
-use Rattle.packets.proofs.Limits.{proposes-valid}
+use Rattle.merges.specs.Votes.{add64}
+use Rattle.merges.specs.Merging.{Noes, proposalOf, networkGoalOf}
+use Rattle.merges.specs.declared.merging.Held.the-variants.{Empty, Packet}
+use Rattle.merges.specs.declared.merging.Payload.{Payload}
+use Rattle.merges.proofs.Safety.{either-cases, proposes-sound}
+use Rattle.merges.proofs.Growth.{proposal-term}
+use Rattle.merges.proofs.Limits.{proposes-valid}
 use Rattle.engines.specs.Limits.{few}
 use Rattle.engines.specs.Nodes.{inc, tickedAll}
 use Rattle.engines.specs.Turns.{started, startedAll, turned, turnOf, turnedAll}

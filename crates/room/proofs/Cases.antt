@@ -14,11 +14,10 @@ use Rattle.texts.specs.Put.{written}
 use Rattle.texts.specs.Readers.{listText, itemsText}
 use Rattle.graph.specs.Links.{graphBy, builtOf, nextRule, meshRule, aheadOf, linkOf, topologyOf, inside, rowsOf}
 use Rattle.graph.specs.Paths.{diameterOf, lengthOf}
-use Rattle.packets.specs.Packets.{ceText, bitmapText, dataText, limits, pipelineText}
-use Rattle.packets.specs.Desk.{payloadOf}
-use Rattle.packets.specs.Votes.{noOf, hashOf, shareOf}
-use Rattle.packets.specs.Merging.{filledOf, markedOf, onlyOf, joinOf, joinNews, unanimousOf, rankOf, ensureOf, decidedOf, acknowledgedOf, voicedOf, settledOf, adoptedOf, raisedOf, ownOf, sameTermOf, outdated, heardOf, mergedBy, mergeOf, proposalData, proposalOf, standingBy, goalOf, canSleepOf, allHold, networkGoalOf, outcomeOf}
-use Rattle.packets.proofs.MergeCases.{all-no}
+use Rattle.packets.specs.Packets.{ceText, bitmapText, dataText, limits, pipelineText, proposalData}
+use Rattle.merges.specs.Merging.{payloadOf, filledOf, markedOf, onlyOf, joinOf, joinNews, unanimousOf, rankOf, ensureOf, decidedOf, acknowledgedOf, voicedOf, settledOf, adoptedOf, raisedOf, ownOf, sameTermOf, outdated, heardOf, mergedBy, mergeOf, proposalOf, standingBy, goalOf, canSleepOf, allHold, networkGoalOf, outcomeOf}
+use Rattle.merges.specs.Votes.{noOf, hashOf, shareOf}
+use Rattle.merges.proofs.MergeCases.{all-no}
 use Rattle.engines.specs.Settings.{lossAccepted, isLossy}
 use Rattle.engines.specs.Marked.{overMarks, withMark}
 use Rattle.engines.specs.Words.{nextOf, unitOf, coinOf, lostOf, pickOf, swapStep, shuffled}

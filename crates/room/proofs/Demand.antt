@@ -7,8 +7,8 @@ use mathlib.Core.Path.{_≡_, refl, sym, ap, subst, _∙_}
 use lib.ListN.{length, take}
 use native.Mathlib.Nat.{zero-add}
 use native.Mathlib.Omega.{arith}
-use Rattle.packets.specs.Merging.{rankOf}
-use Rattle.packets.specs.Sound.{Sound, SoundBy, Claim, AllYes, SomeNo}
+use Rattle.merges.specs.Merging.{rankOf}
+use Rattle.merges.specs.Sound.{Sound, SoundBy, Claim, AllYes, SomeNo}
 use Rattle.packets.specs.declared.TwoPcPhase.{TwoPcPhase}
 use Rattle.packets.specs.declared.TwoPcPhase.the-variants.{Prepare, Committed, Aborted}
 use Rattle.engines.specs.Nodes.{total}

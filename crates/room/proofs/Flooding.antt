@@ -8,7 +8,7 @@ use native.Mathlib.Omega.{arith}
 use borrow.Author.Tests.{eqb-true}
 use Rattle.loops.specs.Pick.{either}
 use Rattle.marks.specs.Marks.{has}
-use Rattle.packets.proofs.Safety.{either-cases}
+use Rattle.merges.proofs.Safety.{either-cases}
 use Rattle.engines.specs.Limits.{few}
 use Rattle.engines.specs.Nodes.{resetRound, setsOf, tickedAll}
 use Rattle.engines.specs.declared.words.Draw.{Draw}

@@ -7,18 +7,18 @@ use lib.Dec.{ltb}
 use lib.ListN.{getD, set}
 use native.Mathlib.Omega.{arith}
 use Rattle.loops.specs.Upto.{upto}
-use Rattle.packets.specs.Votes.{noOf}
-use Rattle.packets.specs.Merging.{Noes, mergeOf, nobody}
-use Rattle.packets.specs.Sound.{SoundHeld, ValidHeld, Grew, Grown}
-use Rattle.packets.specs.declared.votes.Voting.{Voting}
+use Rattle.merges.specs.Votes.{noOf}
+use Rattle.merges.specs.Merging.{Noes, mergeOf, nobody}
+use Rattle.merges.specs.Sound.{SoundHeld, ValidHeld, Grew, Grown}
+use Rattle.merges.specs.declared.votes.Voting.{Voting}
 use Rattle.packets.specs.declared.CeTwoPcPacket.{CeTwoPcPacket}
-use Rattle.packets.specs.declared.merging.Held.{Held}
-use Rattle.packets.specs.declared.merging.Held.the-variants.{Empty, Unreadable, Packet}
-use Rattle.packets.specs.declared.merging.Payload.{Payload}
-use Rattle.packets.specs.declared.merging.Merged.{Merged}
-use Rattle.packets.proofs.Safety.{either-cases, merges-sound}
-use Rattle.packets.proofs.Growth.{merges-grow, merges-keep-term, empty-adopts, nothing-heard}
-use Rattle.packets.proofs.Limits.{merges-valid}
+use Rattle.merges.specs.declared.merging.Held.{Held}
+use Rattle.merges.specs.declared.merging.Held.the-variants.{Empty, Unreadable, Packet}
+use Rattle.merges.specs.declared.merging.Payload.{Payload}
+use Rattle.merges.specs.declared.merging.Merged.{Merged}
+use Rattle.merges.proofs.Safety.{either-cases, merges-sound}
+use Rattle.merges.proofs.Growth.{merges-grow, merges-keep-term, empty-adopts, nothing-heard}
+use Rattle.merges.proofs.Limits.{merges-valid}
 use Rattle.engines.specs.Limits.{few}
 use Rattle.engines.specs.Ce.{hearingOf, toldAt, toldAll}
 use Rattle.engines.specs.declared.ce.Tellings.{Tellings}

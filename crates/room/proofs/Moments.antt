@@ -7,8 +7,8 @@ use mathlib.Core.Path.{_≡_, refl, _∙_}
 use lib.ListN.{length}
 use native.Mathlib.Omega.{arith}
 use Rattle.loops.specs.Runs.{go}
-use Rattle.packets.specs.Sound.{Grown}
-use Rattle.packets.specs.declared.merging.Held.the-variants.{Packet}
+use Rattle.merges.specs.Sound.{Grown}
+use Rattle.merges.specs.declared.merging.Held.the-variants.{Packet}
 use Rattle.pipeline.proofs.Growth as growth
 use Rattle.pipeline.proofs.Logs.{AllKept, logOf, all-more}
 use Rattle.room.specs.declared.room.Room.{Room}

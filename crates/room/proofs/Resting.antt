@@ -11,16 +11,16 @@ use native.Mathlib.Nat.{mod-eq-of-lt}
 use native.Mathlib.Omega.{arith}
 use Rattle.loops.specs.Runs.{go, tell, told-stop}
 use Rattle.marks.specs.Marks.{marks, allOf}
-use Rattle.packets.specs.Votes.{noOf, add64}
-use Rattle.packets.specs.Merging.{Noes, settled, onlyOf, nobody, standingBy, rankOf, allHold, networkGoalOf, outcomeOf, proposalOf, adoptedOf, ensureOf, filledOf, voicedOf, acknowledgedOf, markedOf, settledOf, unanimousOf, decidedOf}
-use Rattle.packets.specs.declared.votes.Voting.{Voting}
+use Rattle.merges.specs.Votes.{noOf, add64}
+use Rattle.merges.specs.Merging.{Noes, settled, onlyOf, nobody, standingBy, rankOf, allHold, networkGoalOf, outcomeOf, proposalOf, adoptedOf, ensureOf, filledOf, voicedOf, acknowledgedOf, markedOf, settledOf, unanimousOf, decidedOf}
+use Rattle.merges.specs.declared.votes.Voting.{Voting}
 use Rattle.packets.specs.declared.TwoPcPhase.the-variants.{Committed}
 use Rattle.packets.specs.declared.CeTwoPcPacket.{CeTwoPcPacket}
-use Rattle.packets.specs.declared.merging.Held.the-variants.{Packet}
-use Rattle.packets.specs.declared.merging.Payload.{Payload}
-use Rattle.packets.specs.declared.merging.ProposalOutcome.the-variants as outcome
-use Rattle.packets.proofs.Safety.{either-cases}
-use Rattle.packets.proofs.Growth.{proposal-term}
+use Rattle.merges.specs.declared.merging.Held.the-variants.{Packet}
+use Rattle.merges.specs.declared.merging.Payload.{Payload}
+use Rattle.merges.specs.declared.merging.ProposalOutcome.the-variants as outcome
+use Rattle.merges.proofs.Safety.{either-cases}
+use Rattle.merges.proofs.Growth.{proposal-term}
 use Rattle.engines.specs.Rows.{isDue}
 use Rattle.engines.specs.Capture.{over, begun, goalMet, finished, slotOf, rowsDue, rowsOf, startOf, afterRound, refusalOf, answerOf}
 use Rattle.engines.specs.declared.capture.CeRound.{CeRound}

@@ -7,7 +7,7 @@ use lib.ListN.{length, getD, set}
 use native.Mathlib.Omega.{arith}
 use Rattle.loops.specs.Upto.{upto}
 use Rattle.loops.specs.Runs.{go, tell}
-use Rattle.packets.proofs.Safety.{either-cases}
+use Rattle.merges.proofs.Safety.{either-cases}
 use Rattle.engines.specs.Limits.{few}
 use Rattle.engines.specs.Nodes.{noNode, resetRound}
 use Rattle.engines.specs.Turns.{started, startedAll}

@@ -15,8 +15,8 @@ use Rattle.packets.specs.Writing.{wroteOf, leftOf}
 use Rattle.packets.specs.declared.TwoPcPhase.{TwoPcPhase}
 use Rattle.packets.specs.declared.CeTwoPcPacket.{CeTwoPcPacket}
 use Rattle.packets.specs.declared.CeRead.{CeRead}
-use Rattle.packets.specs.declared.merging.Held.{Held}
-use Rattle.packets.specs.declared.merging.Held.the-variants.{Empty, Unreadable, Packet}
+use Rattle.merges.specs.declared.merging.Held.{Held}
+use Rattle.merges.specs.declared.merging.Held.the-variants.{Empty, Unreadable, Packet}
 use Rattle.packets.proofs.Promises.{ce-promises}
 use Rattle.room.specs.declared.room.RoomKind.{RoomKind}
 use Rattle.room.specs.declared.room.RoomKind.the-variants as kinds

@@ -8,14 +8,13 @@ use lib.Dec.{eqb}
 use lib.ListN.{length, getD}
 use lib.Ieee.{Float, binary64, ofBits, lt}
 use Rattle.graph.specs.Links.{isSize, rowsOf, topologyOf}
-use Rattle.packets.specs.Votes.{noOf}
-use Rattle.packets.specs.Desk.{payloadOf}
-use Rattle.packets.specs.Merging.{Noes, mergeOf, redundant, networkGoalOf, outcomeOf}
+use Rattle.merges.specs.Votes.{noOf}
+use Rattle.merges.specs.Merging.{payloadOf, Noes, mergeOf, redundant, networkGoalOf, outcomeOf}
 use Rattle.packets.specs.declared.TwoPcPhase.the-variants.{Committed}
 use Rattle.packets.specs.declared.CeTwoPcPacket.{CeTwoPcPacket}
-use Rattle.packets.specs.declared.merging.Held.the-variants.{Empty, Packet}
-use Rattle.packets.specs.declared.merging.Payload.{Payload}
-use Rattle.packets.specs.declared.merging.ProposalOutcome.the-variants as outcome
+use Rattle.merges.specs.declared.merging.Held.the-variants.{Empty, Packet}
+use Rattle.merges.specs.declared.merging.Payload.{Payload}
+use Rattle.merges.specs.declared.merging.ProposalOutcome.the-variants as outcome
 use Rattle.engines.specs.Nodes.{noNode}
 use Rattle.engines.specs.Ce.{payloadLen}
 use Rattle.engines.specs.declared.node.Node.{Node}

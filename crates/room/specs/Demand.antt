@@ -3,12 +3,12 @@ use mathlib.Core.Path.{_≡_}
 use mathlib.Core.List.{List, [], _∷_, List·Memᴰ}
 use Prim.Native.Nat.{ℕ, _*_, _<_, _^_}
 use lib.ListN.{getD, take}
-use Rattle.packets.specs.Merging.{nobody}
-use Rattle.packets.specs.Sound.{AllYes, SomeNo}
+use Rattle.merges.specs.Merging.{nobody}
+use Rattle.merges.specs.Sound.{AllYes, SomeNo}
 use Rattle.packets.specs.declared.TwoPcPhase.{TwoPcPhase}
 use Rattle.packets.specs.declared.TwoPcPhase.the-variants.{Prepare, Committed, Aborted}
-use Rattle.packets.specs.declared.merging.Held.the-variants.{Packet}
-use Rattle.packets.specs.declared.merging.Payload.{Payload}
+use Rattle.merges.specs.declared.merging.Held.the-variants.{Packet}
+use Rattle.merges.specs.declared.merging.Payload.{Payload}
 use Rattle.engines.specs.Nodes.{total}
 use Rattle.engines.specs.declared.settings.Settings.{Settings}
 use Rattle.pipeline.specs.Pending.{noEntry}

@@ -11,14 +11,14 @@ use Rattle.marks.specs.Marks.{has}
 use Rattle.graph.specs.Links.{isSize, positionRefusal}
 use Rattle.packets.specs.Packets.{ceText, ceWithin, pipelineText, pipelineWithin}
 use Rattle.packets.specs.Writing.{wroteOf, leftOf}
-use Rattle.packets.specs.Merging.{nobody, outcomeOf}
+use Rattle.merges.specs.Merging.{nobody, outcomeOf}
 use Rattle.packets.specs.declared.Wrote.{Wrote}
 use Rattle.packets.specs.declared.CeTwoPcPacket.{CeTwoPcPacket}
 use Rattle.packets.specs.declared.TwoPcPacket.{TwoPcPacket}
-use Rattle.packets.specs.declared.merging.Held.{Held}
-use Rattle.packets.specs.declared.merging.Held.the-variants.{Empty, Unreadable, Packet}
-use Rattle.packets.specs.declared.merging.Payload.{Payload}
-use Rattle.packets.specs.declared.merging.ProposalOutcome.the-variants as outcome
+use Rattle.merges.specs.declared.merging.Held.{Held}
+use Rattle.merges.specs.declared.merging.Held.the-variants.{Empty, Unreadable, Packet}
+use Rattle.merges.specs.declared.merging.Payload.{Payload}
+use Rattle.merges.specs.declared.merging.ProposalOutcome.the-variants as outcome
 use Rattle.engines.specs.Nodes.{noNode}
 use Rattle.engines.specs.declared.node.Node.{Node}
 use Rattle.pipeline.specs.Pending.{noEntry}

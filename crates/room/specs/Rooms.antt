@@ -11,13 +11,13 @@ use Rattle.graph.specs.Links.{isSize, noGraph, rowsOf}
 use Rattle.graph.specs.Paths.{lengthOf}
 use Rattle.graph.specs.declared.network.NetworkGraph.{NetworkGraph}
 use Rattle.graph.specs.declared.network.Built.{Built}
-use Rattle.packets.specs.Votes.{add64, noOf}
-use Rattle.packets.specs.Merging.{proposalOf}
+use Rattle.merges.specs.Votes.{add64, noOf}
+use Rattle.merges.specs.Merging.{proposalOf}
 use Rattle.packets.specs.declared.TwoPcPhase.the-variants.{Prepare}
 use Rattle.packets.specs.declared.CeTwoPcPacket.{CeTwoPcPacket}
-use Rattle.packets.specs.declared.merging.Held.the-variants.{Empty, Packet}
-use Rattle.packets.specs.declared.merging.Payload.{Payload}
-use Rattle.packets.specs.declared.votes.Voting.{Voting}
+use Rattle.merges.specs.declared.merging.Held.the-variants.{Empty, Packet}
+use Rattle.merges.specs.declared.merging.Payload.{Payload}
+use Rattle.merges.specs.declared.votes.Voting.{Voting}
 use Rattle.engines.specs.Limits.{few}
 use Rattle.engines.specs.Settings.{lossAccepted}
 use Rattle.engines.specs.Nodes.{inc, noNode}

@@ -3,7 +3,7 @@ use Prim.Native.Nat.{_*_, _≤_, _-_}
 use native.Mathlib.Omega.{arith}
 use lib.ListN.{length, getD}
 use Rattle.loops.specs.Upto.{upto, upto-none, upto-turn, upto-all, upto-keeps}
-use Rattle.packets.specs.Merging.{nobody}
+use Rattle.merges.specs.Merging.{nobody}
 use Rattle.engines.specs.Payloads.{putPlace, putHeld}
 use Rattle.engines.proofs.Storing.{put-payload-length}
 use borrow.Author.Needs.{needs}

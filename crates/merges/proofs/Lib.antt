@@ -1,0 +1,11 @@
+pub mod Halves
+pub mod Bitmaps
+pub mod Safety
+pub mod Growth
+pub mod Late
+pub mod MergeCases
+pub mod Kept
+pub mod Marking
+pub mod Limits
+pub mod Proposing
+pub mod Staying

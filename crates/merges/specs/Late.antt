@@ -1,0 +1,66 @@
+-- Late frames, by change request 12: lists of proposals, and of deliveries of any packet that any position held at any earlier moment.
+-- Assumes nothing: these are definitions and a statement, which proofs/Late.antt proves.
+use mathlib.Core.Path.{_≡_}
+use mathlib.Core.Bool.{Bool, true, false}
+use mathlib.Core.List.{List, [], _∷_}
+use Prim.Native.Nat.{ℕ}
+use lib.Dec.{ltb}
+use lib.ListN.{getD, set, replicate}
+use Rattle.loops.specs.Pick.{either}
+use Rattle.merges.specs.Merging.{Noes, mergeOf, proposalOf, nobody}
+use Rattle.packets.specs.declared.TwoPcPhase.the-variants.{Committed, Aborted}
+use Rattle.packets.specs.declared.CeTwoPcPacket.{CeTwoPcPacket}
+use Rattle.merges.specs.declared.merging.Held.the-variants.{Packet}
+use Rattle.merges.specs.declared.merging.Payload.{Payload}
+
+-- a moment: the term of the last proposal, and what each position holds
+pub record Moment : Type 0 where
+  pub term : ℕ
+  pub held : List Payload
+
+-- at first all are empty
+abbrev pub opening : ℕ → ℕ → Moment
+opening n t = record { term = t; held = replicate n nobody }
+
+-- `Deliver v m u`: position v hears what position u held m moments ago; if that was nothing, it hears nothing
+pub data Event : Type 0 where
+  Propose : ℕ → Event
+  Deliver : ℕ → ℕ → ℕ → Event
+
+-- all moments so far, the last one first
+abbrev pub History : Type 0
+History = List Moment
+
+abbrev pub heldAt : History → ℕ → ℕ → Payload
+heldAt h m u = getD (getD h m (opening 0 0) .held) u nobody
+
+-- one event: a position that is none of the n changes nothing
+unfoldable pub happened : Noes → ℕ → Event → History → Moment → Moment
+happened nay n (Propose v) h a =
+    either (ltb v n)
+    (record { term = proposalOf nay n v (a .term) .term; held = set (replicate n nobody) v (record { held = Packet; packet = proposalOf nay n v (a .term) }) })
+    a
+happened nay n (Deliver v m u) h a =
+    either (ltb v n)
+    (record { term = a .term; held = set (a .held) v (mergeOf nay n v (getD (a .held) v nobody) (heldAt h m u) .payload) })
+    a
+
+-- the history after one event more, and after a list of them
+unfoldable pub after : Noes → ℕ → Event → History → History
+after nay n e [] = []
+after nay n e (a ∷ h) = happened nay n e (a ∷ h) a ∷ a ∷ h
+
+unfoldable pub history : Noes → ℕ → List Event → History → History
+history nay n [] h = h
+history nay n (e ∷ es) h = history nay n es (after nay n e h)
+
+-- whatever is delivered late, no two packets of one term that are ever held are one Committed and one Aborted
+abbrev pub LateFrames : Type 0
+LateFrames =
+    (nay : Noes) (n t : ℕ) (es : List Event) (m u k w : ℕ)
+    → heldAt (history nay n es (opening n t ∷ [])) m u .held ≡ Packet
+    → heldAt (history nay n es (opening n t ∷ [])) k w .held ≡ Packet
+    → heldAt (history nay n es (opening n t ∷ [])) m u .packet .term ≡ heldAt (history nay n es (opening n t ∷ [])) k w .packet .term
+    → heldAt (history nay n es (opening n t ∷ [])) m u .packet .phase ≡ Committed
+    → heldAt (history nay n es (opening n t ∷ [])) k w .packet .phase ≡ Aborted
+    → ⊥

@@ -1,0 +1,82 @@
+-- The C entries' slices and answers in each case.
+-- Assumes nothing.
+use mathlib.Core.Path.{_≡_, refl, sym, ap, ap₂, _∙_}
+use mathlib.Core.Bool.{Bool, true, false}
+use mathlib.Core.List.{List}
+use Prim.Native.Nat.{ℕ, _≤_, _<_}
+use lib.Dec.{eqb}
+use borrow.Author.Tests.{eq-eqb, ne-eqb, le-leb, lt-leb}
+use Rattle.texts.specs.Put.{written, Put}
+use Rattle.packets.specs.Reading.{ceNo, ceRead, pipelineNo, pipelineRead}
+use Rattle.packets.specs.Writing.{refused, wroteOf, leftOf}
+use Rattle.packets_c.specs.Console.{ceTold, pipelineTold, handed, askedWrote, askedLeft, nextOf}
+use Rattle.packets.specs.declared.Wrote.{Wrote}
+
+-- refused: the slice is as it was; else it has the values in front
+pub handed-no : {k : ℕ} (values d : List ℕ) → (k ≡ 0 → ⊥) → d ≡ handed k values d
+unfolding handed
+handed-no {k} values d h = rw (ne-eqb k 0 h)
+
+pub handed-put : {k : ℕ} {values d : List ℕ} {r : ℕ} {d′ : List ℕ} → k ≡ 0 → Put d 0 values r d′ → d′ ≡ handed k values d
+unfolding handed
+handed-put {k} h p = rw (eq-eqb k 0 h) (p .left)
+
+-- what a read leaves: refused with k, or not refused
+pub told-no : {k ρ : ℕ} (vs ds n d : List ℕ) → k ≡ ρ → (k ≡ 0 → ⊥) → (k ≡ ρ) × ((n ≡ handed ρ vs n) × (d ≡ handed ρ ds d))
+told-no vs ds n d e h = (e, (handed-no vs n (λ z. h (e ∙ z)), handed-no ds d (λ z. h (e ∙ z))))
+
+pub told-yes : {ρ : ℕ} {vs ds n d : List ℕ} {r : ℕ} {n′ : List ℕ} {q : ℕ} {d′ : List ℕ} → ρ ≡ 0 → Put n 0 vs r n′ → Put d 0 ds q d′
+    → (0 ≡ ρ) × ((n′ ≡ handed ρ vs n) × (d′ ≡ handed ρ ds d))
+told-yes e p q = (sym e, (handed-put e p, handed-put e q))
+
+module _ (text : List ℕ) (len n b : ℕ) where
+  pub ce-few : n < 5 → 10 ≡ ceTold text len n b .refusal
+  unfolding ceTold ceNo
+  ce-few h = rw (lt-leb 5 n h)
+
+  pub ce-short-bytes : 5 ≤ n → b < 32 → 10 ≡ ceTold text len n b .refusal
+  unfolding ceTold ceNo
+  ce-short-bytes h k = rw (le-leb 5 n h, lt-leb 32 b k)
+
+  pub ce-as-read : 5 ≤ n → 32 ≤ b → ceRead text len ≡ ceTold text len n b
+  unfolding ceTold
+  ce-as-read h k = rw (le-leb 5 n h, le-leb 32 b k)
+
+module _ (text : List ℕ) (len n b : ℕ) where
+  pub pipeline-few : n < 12 → 10 ≡ pipelineTold text len n b .refusal
+  unfolding pipelineTold pipelineNo
+  pipeline-few h = rw (lt-leb 12 n h)
+
+  pub pipeline-short-bytes : 12 ≤ n → b < 32 → 10 ≡ pipelineTold text len n b .refusal
+  unfolding pipelineTold pipelineNo
+  pipeline-short-bytes h k = rw (le-leb 12 n h, lt-leb 32 b k)
+
+  pub pipeline-as-read : 12 ≤ n → 32 ≤ b → pipelineRead text len ≡ pipelineTold text len n b
+  unfolding pipelineTold
+  pipeline-as-read h k = rw (le-leb 12 n h, le-leb 32 b k)
+
+-- what a write answers and leaves: the numbers ask for no packet, the writer refuses it, or it is written
+module _ (fine : Bool) (t d : List ℕ) (at k old : ℕ) where
+  pub write-no : (k ≡ 0 → ⊥)
+      → (k ≡ askedWrote k fine t d at .refusal) × ((d ≡ askedLeft k fine t d at) × (old ≡ nextOf (askedWrote k fine t d at) old))
+  unfolding askedWrote askedLeft nextOf
+  write-no h = (rw (ne-eqb k 0 h), (rw (ne-eqb k 0 h), rw (ne-eqb k 0 h, ne-eqb k 0 h)))
+
+  module _ {w : Wrote} {d′ : List ℕ} (e : k ≡ 0) (f : w ≡ wroteOf fine t d at) (g : d′ ≡ leftOf fine t d at) where
+    same : w ≡ askedWrote k fine t d at
+    unfolding askedWrote
+    same = rw (eq-eqb k 0 e) f
+
+    left : d′ ≡ askedLeft k fine t d at
+    unfolding askedLeft
+    left = rw (eq-eqb k 0 e) g
+
+    pub write-refused : (w .refusal ≡ 0 → ⊥)
+        → (w .refusal ≡ askedWrote k fine t d at .refusal) × ((d′ ≡ askedLeft k fine t d at) × (old ≡ nextOf (askedWrote k fine t d at) old))
+    unfolding nextOf
+    write-refused h = (ap (λ (x : Wrote). x .refusal) same, (left, rw (← same, ne-eqb (w .refusal) 0 h)))
+
+    pub write-yes : w .refusal ≡ 0
+        → (0 ≡ askedWrote k fine t d at .refusal) × ((d′ ≡ askedLeft k fine t d at) × (w .next ≡ nextOf (askedWrote k fine t d at) old))
+    unfolding nextOf
+    write-yes h = (sym h ∙ ap (λ (x : Wrote). x .refusal) same, (left, rw (← same, eq-eqb (w .refusal) 0 h)))

@@ -1,0 +1,218 @@
+-- The merge on texts follows the merge of packets, and is refused as 2, 8 or 10 alone.
+-- Assumes nothing.
+use mathlib.Core.Path.{_≡_, refl, sym, ap, _∙_, subst}
+use mathlib.Core.Bool.{Bool, true, false, _&&_}
+use mathlib.Core.List.{List, [], _∷_, _++_}
+use mathlib.Core.Logic.{_⊎_, inl, inr}
+use Prim.Native.Nat.{ℕ, _+_, _≤_}
+use native.Mathlib.Omega.{arith}
+use lib.Dec.{leb, ltb, eqb}
+use lib.ListN.{length, take, drop}
+use lib.Seq.{take-at}
+use borrow.Author.Tests.{le-leb, leb-true, eq-eqb, ne-eqb, eqb-true, eqb-false}
+use Rattle.loops.specs.Pick.{either}
+use Rattle.marks.specs.Sets.{and-true, true-and}
+use Rattle.texts.specs.Put.{written, length-written}
+use Rattle.packets.specs.Packets.{ceText, ceWithin, limits, ValidCe}
+use Rattle.packets.specs.Reading.{ceRead, ceReadOf, ceNo}
+use Rattle.packets.specs.Writing.{wroteOf, leftOf}
+use Rattle.merges.specs.Votes.{noOf}
+use Rattle.merges.specs.Merging.{Noes, sameTermOf, outdated, heardOf, mergedBy, mergeOf, readAs, payloadOf}
+use Rattle.merges.specs.Sound.{ValidHeld}
+use Rattle.packets_c.specs.Desk.{refusalOf, Desk, rewritten, answered, deskOf, TextsFollow, Refusals}
+use Rattle.packets.specs.declared.CeTwoPcPacket.{CeTwoPcPacket}
+use Rattle.packets.specs.declared.CeRead.{CeRead}
+use Rattle.packets.specs.declared.Wrote.{Wrote}
+use Rattle.merges.specs.declared.votes.Voting.{Voting}
+use Rattle.merges.specs.declared.merging.MergeResult.{MergeResult}
+use Rattle.merges.specs.declared.merging.MergeResult.the-variants.{Redundant, NewInfo}
+use Rattle.merges.specs.declared.merging.Held.{Held}
+use Rattle.merges.specs.declared.merging.Held.the-variants.{Empty, Unreadable, Packet}
+use Rattle.merges.specs.declared.merging.Payload.{Payload}
+use Rattle.merges.specs.declared.merging.Merged.{Merged}
+use Rattle.packets.proofs.Promises.{ce-promises}
+use Rattle.merges.proofs.Safety.{either-cases}
+use Rattle.merges.proofs.Growth.{redundant-keeps}
+use Rattle.merges.proofs.Limits.{merges-valid}
+
+-- ---- what is read is valid
+given-valid : (s : List ℕ) (len : ℕ) → ceRead s len .refusal ≡ 0 → ValidCe (ceRead s len .packet)
+unfolding ceRead ceNo
+given-valid s len =
+    either-cases (λ (r : CeRead). r .refusal ≡ 0 → ValidCe (r .packet)) (leb len (length s)) {x = ceReadOf (take len s)} {y = ceNo 10}
+    (λ x k. ce-promises .given (take len s) k .1)
+    (λ x k. absurd (ten k))
+  where
+    ten : _≡_ {A = ℕ} 10 0 → ⊥
+    ten k = omega arith
+
+read-valid : (len : ℕ) (r : CeRead) → (r .refusal ≡ 0 → ValidCe (r .packet)) → ValidHeld (readAs len r)
+read-valid len r h = by (eqb len 0) (eqb (r .refusal) 0) refl
+  where
+    by : (b c : Bool) → eqb (r .refusal) 0 ≡ c → either b Empty (either c Packet Unreadable) ≡ Packet → ValidCe (r .packet)
+    by true c e k = absurd (let z : _≡_ {A = ℕ} 0 1 = cc in omega arith)
+    by false true e k = h (eqb-true (r .refusal) 0 e)
+    by false false e k = absurd (let z : _≡_ {A = ℕ} 0 1 = cc in omega arith)
+
+payload-valid : (s : List ℕ) (len : ℕ) → ValidHeld (payloadOf s len)
+unfolding payloadOf
+payload-valid s len = read-valid len (ceRead s len) (given-valid s len)
+
+-- ---- what is news is a packet
+abbrev NewsHeld : Merged → Type 0
+NewsHeld m = m .result ≡ NewInfo → m .payload .held ≡ Packet
+
+told-apart : {A : Type 0} → Redundant ≡ NewInfo → A
+told-apart e = absurd (let z : _≡_ {A = ℕ} 0 1 = cc in omega arith)
+
+heard-held : (nay : Noes) (n v : ℕ) (l : Payload) (p : CeTwoPcPacket) (h : Held) → NewsHeld (heardOf nay n v l p h)
+unfolding heardOf
+heard-held nay n v l p Empty = λ e. refl
+heard-held nay n v l p Unreadable = λ e. told-apart e
+heard-held nay n v l p Packet =
+    either-cases NewsHeld (ltb (l .packet .term) (p .term))
+    (λ x e. refl)
+    (λ x. either-cases NewsHeld (outdated (p .term) (l .packet .term))
+    (λ y e. told-apart e)
+    (λ y. either-cases NewsHeld (sameTermOf nay n v (l .packet) p .news) (λ z e. refl) (λ z e. told-apart e)))
+
+merged-held : (nay : Noes) (n v : ℕ) (l : Payload) (p : CeTwoPcPacket) (h : Held) → NewsHeld (mergedBy nay n v l p h)
+unfolding mergedBy
+merged-held nay n v l p Empty = λ e. told-apart e
+merged-held nay n v l p Unreadable = λ e. told-apart e
+merged-held nay n v l p Packet = heard-held nay n v l p (l .held)
+
+pub news-held : (nay : Noes) (n v : ℕ) (l r : Payload) → NewsHeld (mergeOf nay n v l r)
+unfolding mergeOf
+news-held nay n v l r = merged-held nay n v l (r .packet) (r .held)
+
+-- ---- a valid packet that is written at the start of a buffer is read from there
+within : (p : CeTwoPcPacket) → ValidCe p → ceWithin p ≡ true
+unfolding limits
+within p s =
+    true-and (leb (p .«flags_bitmap» .len) 64) (leb (p .«proposal_data» .len) 32)
+    (le-leb (p .«flags_bitmap» .len) 64 (s .bitmap .few)) (le-leb (p .«proposal_data» .len) 32 (s .bytes .few))
+
+some-text : (p : CeTwoPcPacket) → length (ceText p) ≡ 0 → ⊥
+unfolding ceText
+some-text p e = omega arith
+
+zero-sum : (x : ℕ) → 0 + x ≡ x
+zero-sum x = omega arith
+
+taken-back : (d t : List ℕ) → take (length t) (written d 0 t) ≡ t
+unfolding written
+taken-back d t = take-at t (drop (0 + length t) d) (length t) refl
+
+reread : (p : CeTwoPcPacket) → ValidCe p → (d : List ℕ) → 0 + length (ceText p) ≤ length d
+    → payloadOf (written d 0 (ceText p)) (0 + length (ceText p)) ≡ record { held = Packet; packet = p }
+unfolding payloadOf ceRead
+reread p s d h =
+    let t = ceText p in
+    let k : length t ≤ length (written d 0 t) = omega (arith, length-written d 0 t h) in
+    rw (zero-sum (length t), le-leb (length t) (length (written d 0 t)) k, taken-back d t, ne-eqb (length t) 0 (some-text p), eq-eqb (ceReadOf t .refusal) 0 (ce-promises .back p s .0))
+    (ap (λ (q : CeTwoPcPacket). record { held = Packet; packet = q }) (ce-promises .back p s .1))
+
+-- ---- the call
+module _ (p : CeTwoPcPacket) (s : ValidCe p) (local : List ℕ) (len was : ℕ) where
+  abbrev Follows : Desk → Type 0
+  Follows d = d .refusal ≡ 0 → payloadOf (d .text) (d .len) ≡ record { held = Packet; packet = p }
+
+  abbrev Ends : Desk → Type 0
+  Ends d = (d .refusal ≡ 0) ⊎ ((d .refusal ≡ 2) ⊎ ((d .refusal ≡ 8) ⊎ (d .refusal ≡ 10)))
+
+  -- the writer's answer, by whether the text fits
+  abbrev Made : Bool → Desk
+  Made b =
+      record {
+        refusal = either {A = Wrote} b (record { refusal = 0; next = 0 + length (ceText p) }) (record { refusal = 10; next = 0 }) .refusal;
+        text = either b (written local 0 (ceText p)) local;
+        len = either (eqb (either {A = Wrote} b (record { refusal = 0; next = 0 + length (ceText p) }) (record { refusal = 10; next = 0 }) .refusal) 0) (either {A = Wrote} b (record { refusal = 0; next = 0 + length (ceText p) }) (record { refusal = 10; next = 0 }) .next) len;
+        news = either (eqb (either {A = Wrote} b (record { refusal = 0; next = 0 + length (ceText p) }) (record { refusal = 10; next = 0 }) .refusal) 0) 1 was;
+      }
+
+  rewritten-made : rewritten local len was p ≡ Made (leb (0 + length (ceText p)) (length local))
+  unfolding rewritten wroteOf leftOf
+  rewritten-made = rw (within p s)
+
+  made-follows : (b : Bool) → leb (0 + length (ceText p)) (length local) ≡ b → Follows (Made b)
+  made-follows true e = λ k. reread p s local (leb-true (0 + length (ceText p)) (length local) e)
+  made-follows false e = λ k. absurd (ten k)
+    where
+      ten : _≡_ {A = ℕ} 10 0 → ⊥
+      ten k = omega arith
+
+  made-ends : (b : Bool) → Ends (Made b)
+  made-ends true = inl refl
+  made-ends false = inr (inr (inr refl))
+
+  rewritten-follows : Follows (rewritten local len was p)
+  rewritten-follows = subst Follows (sym rewritten-made) (made-follows (leb (0 + length (ceText p)) (length local)) refl)
+
+  rewritten-ends : Ends (rewritten local len was p)
+  rewritten-ends = subst Ends (sym rewritten-made) (made-ends (leb (0 + length (ceText p)) (length local)))
+
+-- the refusal by its four tests
+abbrev tested : Bool → Bool → Bool → Bool → ℕ
+tested a b c d = either a (either b (either c (either d 0 10) 10) 8) 2
+
+-- an allowed call has at most 64 positions
+allowed : (n v cap len rcap rlen : ℕ) → refusalOf n v cap len rcap rlen ≡ 0 → n ≤ 64
+unfolding refusalOf
+allowed n v cap len rcap rlen = go (ltb 0 n && leb n 64) refl
+  where
+    go : (b : Bool) → (ltb 0 n && leb n 64) ≡ b → tested b (ltb v n) (leb len cap) (leb rlen rcap) ≡ 0 → n ≤ 64
+    go true e k = leb-true n 64 (and-true (ltb 0 n) (leb n 64) e .1)
+    go false e k = absurd (omega arith)
+
+module _ (s : Voting) (v : ℕ) (local : List ℕ) (len : ℕ) (received : List ℕ) (rlen was : ℕ) where
+  abbrev merged : Merged
+  merged = mergeOf (noOf s) (s .n) v (payloadOf local len) (payloadOf received rlen)
+
+  valid-news : s .n ≤ 64 → merged .result ≡ NewInfo → ValidCe (merged .payload .packet)
+  valid-news h e = merges-valid (noOf s) (s .n) v (payloadOf local len) (payloadOf received rlen) h (payload-valid local len) (payload-valid received rlen) (news-held (noOf s) (s .n) v (payloadOf local len) (payloadOf received rlen) e)
+
+  answered-follows : s .n ≤ 64 → (r : MergeResult) → merged .result ≡ r → answered local len was (merged .payload .packet) r .refusal ≡ 0
+      → payloadOf (answered local len was (merged .payload .packet) r .text) (answered local len was (merged .payload .packet) r .len) ≡ merged .payload
+  unfolding answered
+  answered-follows h Redundant e k = sym (redundant-keeps (noOf s) (s .n) v (payloadOf local len) (payloadOf received rlen) e)
+  answered-follows h NewInfo e k =
+      rewritten-follows (merged .payload .packet) (valid-news h e) local len was k
+      ∙ ap (λ (x : Held). record { held = x; packet = merged .payload .packet }) (sym (news-held (noOf s) (s .n) v (payloadOf local len) (payloadOf received rlen) e))
+
+  answered-ends : s .n ≤ 64 → (r : MergeResult) → merged .result ≡ r
+      → (answered local len was (merged .payload .packet) r .refusal ≡ 0)
+      ⊎ ((answered local len was (merged .payload .packet) r .refusal ≡ 2)
+      ⊎ ((answered local len was (merged .payload .packet) r .refusal ≡ 8) ⊎ (answered local len was (merged .payload .packet) r .refusal ≡ 10)))
+  unfolding answered
+  answered-ends h Redundant e = inl refl
+  answered-ends h NewInfo e = rewritten-ends (merged .payload .packet) (valid-news h e) local len was
+
+pub texts-follow : TextsFollow
+unfolding deskOf
+texts-follow s v local len received rlen was =
+    let k = refusalOf (s .n) v (length local) len (length received) rlen in
+    either-cases (λ (d : Desk). d .refusal ≡ 0 → payloadOf (d .text) (d .len) ≡ merged s v local len received rlen was .payload) (eqb k 0)
+    (λ x. answered-follows s v local len received rlen was (allowed (s .n) v (length local) len (length received) rlen (eqb-true k 0 x)) (merged s v local len received rlen was .result) refl)
+    (λ x e. absurd (eqb-false k 0 x e))
+
+refusal-ends : (n v cap len rcap rlen : ℕ)
+    → (refusalOf n v cap len rcap rlen ≡ 0) ⊎ ((refusalOf n v cap len rcap rlen ≡ 2) ⊎ ((refusalOf n v cap len rcap rlen ≡ 8) ⊎ (refusalOf n v cap len rcap rlen ≡ 10)))
+unfolding refusalOf
+refusal-ends n v cap len rcap rlen = go (ltb 0 n && leb n 64) (ltb v n) (leb len cap) (leb rlen rcap)
+  where
+    go : (a b c d : Bool)
+        → (tested a b c d ≡ 0) ⊎ ((tested a b c d ≡ 2) ⊎ ((tested a b c d ≡ 8) ⊎ (tested a b c d ≡ 10)))
+    go false b c d = inr (inl refl)
+    go true false c d = inr (inr (inl refl))
+    go true true false d = inr (inr (inr refl))
+    go true true true false = inr (inr (inr refl))
+    go true true true true = inl refl
+
+pub refusals : Refusals
+unfolding deskOf
+refusals s v local len received rlen was =
+    let k = refusalOf (s .n) v (length local) len (length received) rlen in
+    either-cases (λ (d : Desk). (d .refusal ≡ 0) ⊎ ((d .refusal ≡ 2) ⊎ ((d .refusal ≡ 8) ⊎ (d .refusal ≡ 10)))) (eqb k 0)
+    (λ x. answered-ends s v local len received rlen was (allowed (s .n) v (length local) len (length received) rlen (eqb-true k 0 x)) (merged s v local len received rlen was .result) refl)
+    (λ x. refusal-ends (s .n) v (length local) len (length received) rlen)
