@@ -13,14 +13,21 @@ fn main() {
         None => here.join("../target/staticlib"),
     };
     println!("cargo:rustc-link-search=native={}", folder.display());
-    for part in ["graph", "packets", "engines", "pipeline", "room"] {
+    // what C can call of a layer stands in a crate beside it
+    for (part, archive) in [
+        ("graph", "graph"),
+        ("packets", "packets_c"),
+        ("engines", "engines_c"),
+        ("pipeline", "pipeline_c"),
+        ("room", "room_c"),
+    ] {
         let feature = format!("CARGO_FEATURE_{}", part.to_uppercase());
         if env::var_os(feature).is_some() {
             println!(
                 "cargo:rerun-if-changed={}",
-                folder.join(format!("lib{part}.a")).display()
+                folder.join(format!("lib{archive}.a")).display()
             );
-            println!("cargo:rustc-link-lib=static={part}");
+            println!("cargo:rustc-link-lib=static={archive}");
         }
     }
 }

@@ -1,7 +1,7 @@
 /* Writes a packet of each family, reads it back, shows two refusals, and passes a proposal on by a merge. From the top of the repository:
 
-       rt staticlib packets
-       gcc -std=c11 -Wall -Wextra -Werror -Iinclude include/example.c target/staticlib/libpackets.a -o target/example
+       rt staticlib packets_c
+       gcc -std=c11 -Wall -Wextra -Werror -Iinclude include/example.c target/staticlib/libpackets_c.a -o target/example
        target/example
 */
 #include <stdio.h>

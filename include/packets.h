@@ -1,4 +1,4 @@
-/* The packet entries of libpackets.a.
+/* The packet entries of libpackets_c.a.
 
    A slice is two parameters: a pointer and the number of its elements. A null pointer with the number 0 is an empty slice; a slice that is written must not
    overlap another one. Each call answers with its refusal, 0 for none: 9 for a text or numbers that stand for no packet within the limits, 10 for a slice

@@ -61,7 +61,7 @@ module _ (ws : List ℕ) where
     downto-later f h zero s = later-same (g s)
     downto-later f h (suc n) s = later-trans (h (suc n) s) (downto-later f h n (f (suc n) s))
 
-    either-later : (d : Draw) (b : Bool) (s t : S) → Later ws d (g s) → Later ws d (g t) → Later ws d (g (either b s t))
+    pub either-later : (d : Draw) (b : Bool) (s t : S) → Later ws d (g s) → Later ws d (g t) → Later ws d (g (either b s t))
     either-later d true s t p q = p
     either-later d false s t p q = q
 
@@ -69,7 +69,7 @@ module _ (ws : List ℕ) where
     unfolding overMarks
     marks-later f h m s = upto-later (λ i t. either (has m i) (f i t) t) (λ i t. either-later (g t) (has m i) (f i t) t (h i t) (later-same (g t))) 64 s
 
-    go-later : (stop : S → Bool) (f : S → S) → ((s : S) → Later ws (g s) (g (f s))) → (k : ℕ) (b : Bool) (s : S) → Later ws (g s) (g (go stop f k b s))
+    pub go-later : (stop : S → Bool) (f : S → S) → ((s : S) → Later ws (g s) (g (f s))) → (k : ℕ) (b : Bool) (s : S) → Later ws (g s) (g (go stop f k b s))
     unfolding go
     go-later stop f h zero b s = later-same (g s)
     go-later stop f h (suc k) true s = later-same (g s)

@@ -6,6 +6,7 @@ pub mod Marking
 pub mod Hearing
 pub mod Kept
 pub mod Cursor
+pub mod Shortage
 pub mod Neighbours
 pub mod RowSums
 pub mod Telling

@@ -1,7 +1,8 @@
 -- Document 01, "Capture round", a slot: tick, row, goal test, coins, captures, merges, next states. Assumes nothing.
 use mathlib.Core.Bool.{Bool, true, false}
 use mathlib.Core.List.{List, []}
-use Prim.Native.Nat.{ℕ, _+_, _*_, _/_, _%_, _^_}
+use mathlib.Core.Path.{_≡_}
+use Prim.Native.Nat.{ℕ, _+_, _*_, _/_, _%_, _^_, _≤_}
 use lib.Dec.{eqb, ltb, leb}
 use lib.ListN.{length}
 use lib.Seq.{sets}
@@ -18,6 +19,7 @@ use Rattle.engines.specs.declared.turns.News.{News}
 use Rattle.engines.specs.declared.ce.Tellings.{Tellings}
 use Rattle.engines.specs.declared.capture.CeRound.{CeRound}
 use Rattle.engines.specs.declared.capture.CeState.{CeState}
+use Rattle.engines.specs.declared.capture.CeRun.{CeRun}
 use Rattle.engines.specs.declared.capture.CeAnswer.{CeAnswer}
 
 -- first every position is ticked
@@ -111,6 +113,13 @@ startOf conf initiator cursor c =
 -- the state after at most k slots
 unfoldable pub afterRound : List ℕ → List ℕ → CeRound → ℕ → CeState → CeState
 afterRound ws links conf k s = runs over (slotOf ws links conf) k s
+
+-- what the run of a round for its rows' number must find out: whether words run short and, if they do not, the state at its end and how many rows are due
+pub record Surveyed (ws links : List ℕ) (conf : CeRound) (k : ℕ) (c : CeState) (r : CeRun) : Type 0 where
+  pub short : r .state .draw .short ≡ runs over (slotOf ws links conf) k c .draw .short
+  pub state : r .state .draw .short ≡ false → r .state ≡ runs over (slotOf ws links conf) k c
+  pub due : r .state .draw .short ≡ false → r .due * 5 ≡ length (rowsOf ws links conf k c)
+  pub small : r .due ≤ k
 
 -- 15: start and full length pass slot 2^32 - 1. 16: run to its own end, the round draws more words than remain. 17: that run has more rows due than the
 -- unused part holds whole, or the used count is beyond the buffer. The lowest of these, and 0 for none.

@@ -5,7 +5,7 @@ ghost use lib.Dec.{ltb};
 ghost use lib.ListN.{length};
 ghost use lib.Seq.{sets};
 ghost use Rattle.loops.specs.Runs.{runs};
-ghost use Rattle.engines.specs.Capture.{begun, goalMet, acted, finished, slotOf, over, dueAfter, rowsDue, rowsOf, startOf, answerOf, bufferOf};
+ghost use Rattle.engines.specs.Capture.{begun, goalMet, acted, finished, slotOf, over, dueAfter, rowsDue, rowsOf, Surveyed, startOf, answerOf, bufferOf};
 use super::ce;
 use super::metrics::MetricsCollector;
 use super::node;
@@ -157,15 +157,18 @@ fn due_after(due: u64, c: CeState) -> u64
     due
 }
 
-// The round without its rows, and how many are due.
+// The round without its rows, and how many are due. Once words have run short the rest is not run: a round may have four billion slots, and a lack stays noted.
 fn dry_run(words: &[u64], links: &[u64; 64], conf: CeRound, c: CeState, k: u64) -> CeRun
-    ensures { λ r. ⌜ (r .state ≡ runs over (slotOf (now (words .entry)) (now (links .entry)) conf) k c) × (r .due * 5 ≡ length (rowsOf (now (words .entry)) (now (links .entry)) conf k c)) × (r .due ≤ k) ⌝ }
+    ensures { λ r. ⌜ Surveyed (now (words .entry)) (now (links .entry)) conf k c r ⌝ }
 {
     let mut d = c;
     let mut left = k;
     let mut due: u64 = 0;
     while 0 < left {
         if d.ended {
+            return CeRun { state: d, due };
+        }
+        if ran_short(d) {
             return CeRun { state: d, due };
         }
         let ticked = begin(conf, d);

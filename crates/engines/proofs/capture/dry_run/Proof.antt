@@ -1,10 +1,10 @@
-use mathlib.Core.Path.{refl}
+use mathlib.Core.Path.{refl, sym, _∙_}
 use native.Mathlib.Omega.{arith}
 use lib.ListN.{length}
 use borrow.Author.Needs.{needs}
 use Rattle.loops.specs.Runs.{runs}
 use Rattle.engines.specs.Capture.{slotOf, over, rowsOf}
-use Rattle.engines.proofs.RowCounts.{Counted, counted-turn, counted-stop, counted-none}
+use Rattle.engines.proofs.RowCounts.{Counted, counted-turn, counted-stop, counted-none, counted-short}
 use Rattle.engines.proofs.capture.dry_run.Statement.{statement}
 use Rattle.engines.proofs.capture.dry_run.Tie as tie
 
@@ -21,11 +21,13 @@ dry-run-spec =
     Inv-loop
     μ-loop
     (λ c. record { run = refl; rows = omega arith; small = omega arith })
-    (λ c. counted-stop _ _ _ (c .before .before .loop .inv) (c .before .loop-test .taken) (c .if1 .taken))
+    (λ c. counted-stop _ _ _ _ _ (c .before .before .loop .inv) (c .before .loop-test .taken) (c .if1 .taken))
     (λ c κs. search needs)
-    (λ c κs. omega (arith, c .before .before .before .loop .inv .small, c .before .before .loop-test .taken, c .before .before .before .before .before .fits .k))
+    (λ c. counted-short _ _ _ _ _ (c .before .before .before .before .loop .inv) (sym (c .before .ran-short .ensures) ∙ c .if2 .taken))
+    (λ c κs. search needs)
+    (λ c κs. omega (arith, c .before .before .before .before .before .loop .inv .small, c .before .before .before .before .loop-test .taken, c .before .before .before .before .before .before .before .fits .k))
     (λ c κs. search needs)
     (λ c. search needs)
     (λ c. search needs)
-    (λ c. counted-turn _ _ _ (c .before .before .before .before .before .loop .inv) (c .before .before .before .before .loop-test .taken) (c .before .before .before .if1 .left) (c .before .before .begin .ensures) (c .before .due-after .ensures) (c .finish .ensures))
-    (λ c. counted-none _ _ _ (c .before .loop .inv) (c .loop-test .left)))
+    (λ c. counted-turn _ _ _ (c .before .before .before .before .before .before .before .loop .inv) (c .before .before .before .before .before .before .loop-test .taken) (c .before .before .before .before .before .if1 .left) (c .before .before .begin .ensures) (c .before .due-after .ensures) (c .finish .ensures))
+    (λ c. counted-none _ _ _ _ _ (c .before .loop .inv) (c .loop-test .left)))
