@@ -12,5 +12,3 @@ pub mod Telling
 pub mod Recording
 pub mod RowCounts
 pub mod Settling
-pub mod Storing
-pub mod Stating
