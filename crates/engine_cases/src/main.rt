@@ -7,9 +7,9 @@
 //   4 initiator slots numbers    a round, with room for that many numbers of rows
 // The answer to 4 is the refusal, the first six numbers of the state, recoveries, frames tried and heard, and a digest of the whole state and of the rows.
 ghost use Prim.Native.Nat.{_≤_};
-use engines::console;
-use engines::numbers;
-use engines::payloads;
+use engines_c::console;
+use engines_c::numbers;
+use engines_c::payloads;
 use graph::network::NetworkGraph;
 use merges::merging;
 use merges::merging::Held;

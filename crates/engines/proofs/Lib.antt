@@ -13,5 +13,3 @@ pub mod Telling
 pub mod Recording
 pub mod RowCounts
 pub mod Settling
-pub mod Storing
-pub mod Stating

@@ -10,6 +10,3 @@ pub mod Turns
 pub mod Cases
 pub mod Ce
 pub mod Capture
-pub mod Numbers
-pub mod Payloads
-pub mod Console

@@ -2,12 +2,9 @@
 // `pipeline` the third of the layers.
 pub mod capture;
 pub mod ce;
-pub mod console;
 pub mod limits;
 pub mod metrics;
 pub mod node;
-pub mod numbers;
-pub mod payloads;
 pub mod plan;
 pub mod rows;
 pub mod settings;

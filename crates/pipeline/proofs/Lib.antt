@@ -9,7 +9,5 @@ pub mod Rounding
 pub mod Logs
 pub mod Totals
 pub mod PipelineCases
-pub mod Playing
-pub mod Numbering
 pub mod Written
 pub mod Packing

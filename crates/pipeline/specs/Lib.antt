@@ -2,5 +2,3 @@ pub mod Flood
 pub mod Pending
 pub mod Pipeline
 pub mod Round
-pub mod Play
-pub mod Console

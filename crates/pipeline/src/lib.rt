@@ -1,5 +1,4 @@
 // The identical flood and the pipeline round. Part of the third layer; what both kinds of rounds are made of stands in `engines`.
-pub mod console;
 pub mod flood;
 mod ledger;
 pub mod packet;
@@ -7,5 +6,4 @@ mod pending;
 pub mod pipeline;
 mod prepare;
 mod process;
-pub mod rounds;
 pub mod two_pc_pipeline;

@@ -14,13 +14,13 @@ use merges::votes;
 use pipeline::flood;
 use pipeline::pipeline::Pipeline;
 use pipeline::pipeline::PipelineConf;
-use pipeline::rounds;
-use pipeline::rounds::Played;
 use pipeline::two_pc_pipeline::Book;
 use pipeline::two_pc_pipeline::LogEntry;
 use pipeline::two_pc_pipeline::NodeTwoPcState;
 use pipeline::two_pc_pipeline::TxLog;
 use pipeline::two_pc_pipeline::Txs;
+use pipeline_c::rounds;
+use pipeline_c::rounds::Played;
 
 // The numbers of a line, and the number that is being read.
 struct Line {

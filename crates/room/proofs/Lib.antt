@@ -9,4 +9,3 @@ pub mod Texts
 pub mod Resting
 pub mod Still
 pub mod Cases
-pub mod Running

@@ -1,4 +1,3 @@
 // Rooms: opened, called, read. The fourth of the layers.
-pub mod console;
 pub mod readings;
 pub mod room;

@@ -1,0 +1,62 @@
+-- Document 01, "Where each language form belongs", entries on slices and numbers: what a lent list of numbers says of what positions hold.
+-- Assumes nothing.
+use mathlib.Core.List.{List, [], _∷_}
+use Prim.Native.Nat.{ℕ, _+_, _*_, _%_}
+use lib.Dec.{eqb}
+use lib.ListN.{getD}
+use lib.Seq.{sets}
+use Rattle.loops.specs.Pick.{either}
+use Rattle.loops.specs.Table.{tabulate}
+use Rattle.loops.specs.Upto.{upto}
+use Rattle.packets_c.specs.Console.{phaseNumber, phaseNumbered}
+use Rattle.merges.specs.Merging.{nobody}
+use Rattle.packets.specs.declared.CeTwoPcPacket.{CeTwoPcPacket}
+use Rattle.merges.specs.declared.merging.Held.{Held}
+use Rattle.merges.specs.declared.merging.Held.the-variants.{Empty, Unreadable, Packet}
+use Rattle.merges.specs.declared.merging.Payload.{Payload}
+use Rattle.engines_c.specs.Numbers.{cell}
+
+abbrev pub heldNumber : Held → ℕ
+heldNumber Empty = 0
+heldNumber Unreadable = 1
+heldNumber Packet = 2
+
+-- a number that is none of the three reads as a packet
+abbrev pub heldNumbered : ℕ → Held
+heldNumbered n = either (eqb n 0) Empty (either (eqb n 1) Unreadable Packet)
+
+-- a number that is no byte gives its low eight digits
+unfoldable pub bytesAt : List ℕ → ℕ → ℕ → List ℕ
+bytesAt xs at k = tabulate 32 (λ i. cell xs at (k + i) % 256)
+
+-- A payload is 38 numbers: what it is, term, phase, lengths of data and bitmap, marks, bytes.
+abbrev pub packetAt : List ℕ → ℕ → ℕ → CeTwoPcPacket
+packetAt xs at k =
+    record {
+      term = cell xs at (k + 1);
+      phase = phaseNumbered (cell xs at (k + 2));
+      «proposal_data» = record { len = cell xs at (k + 3); bytes = bytesAt xs at (k + 6) };
+      «flags_bitmap» = record { len = cell xs at (k + 4); marks = cell xs at (k + 5) };
+    }
+
+unfoldable pub payloadAt : List ℕ → ℕ → ℕ → Payload
+payloadAt xs at k = record { held = heldNumbered (cell xs at k); packet = packetAt xs at k }
+
+-- 64 payloads, one behind the other
+unfoldable pub heldAt : List ℕ → ℕ → List Payload
+heldAt xs at = tabulate 64 (λ i. payloadAt xs at (i * 38))
+
+-- the numbers in front of the bytes
+abbrev pub payloadNumbers : Payload → List ℕ
+payloadNumbers l =
+    heldNumber (l .held) ∷ l .packet .term ∷ phaseNumber (l .packet .phase) ∷ l .packet .«proposal_data» .len ∷ l .packet .«flags_bitmap» .len ∷
+    l .packet .«flags_bitmap» .marks ∷ []
+
+unfoldable pub putPayload : ℕ → ℕ → Payload → List ℕ → List ℕ
+putPayload at k l xs = sets (sets xs (at + k) (payloadNumbers l)) (at + (k + 6)) (l .packet .«proposal_data» .bytes)
+
+abbrev pub putPlace : ℕ → List Payload → ℕ → List ℕ → List ℕ
+putPlace at held i xs = putPayload at (i * 38) (getD held i nobody) xs
+
+unfoldable pub putHeld : ℕ → List Payload → List ℕ → List ℕ
+putHeld at held xs = upto 64 (putPlace at held) xs

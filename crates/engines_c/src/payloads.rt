@@ -1,0 +1,166 @@
+// What 64 positions hold as a lent list of numbers, 38 for each: what it is (0 nothing, 1 a text that is no packet, 2 a packet), the packet's term
+// and phase, the length of its data and of its bitmap, the bitmap's marks, and 32 bytes of data.
+ghost use mathlib.Core.Path.{_≡_};
+ghost use Prim.Native.Nat.{_+_, _≤_};
+ghost use Rattle.packets_c.specs.Console.{phaseNumber, phaseNumbered};
+ghost use Rattle.engines_c.specs.Payloads.{heldNumber, heldNumbered, bytesAt, payloadAt, heldAt, payloadNumbers, putPayload, putHeld};
+use super::numbers;
+use packets::Bitmap;
+use packets::CeTwoPcPacket;
+use packets::Data;
+use packets::TwoPcPhase;
+use merges::merging::Held;
+use merges::merging::Payload;
+
+fn held_number(h: Held) -> u64
+    ensures { λ r. ⌜ r ≡ heldNumber h ⌝ }
+{
+    match h {
+        Held::Empty => 0,
+        Held::Unreadable => 1,
+        Held::Packet => 2,
+    }
+}
+
+// A number above 2 reads as a packet.
+fn held_numbered(n: u64) -> Held
+    ensures { λ r. ⌜ r ≡ heldNumbered n ⌝ }
+{
+    if n == 0 {
+        return Held::Empty;
+    }
+    if n == 1 {
+        return Held::Unreadable;
+    }
+    Held::Packet
+}
+
+fn phase_number(p: TwoPcPhase) -> u64
+    ensures { λ r. ⌜ r ≡ phaseNumber p ⌝ }
+{
+    match p {
+        TwoPcPhase::Prepare => 0,
+        TwoPcPhase::Committed => 1,
+        TwoPcPhase::Aborted => 2,
+    }
+}
+
+// A number above 2 reads as Aborted.
+fn phase_numbered(n: u64) -> TwoPcPhase
+    ensures { λ r. ⌜ r ≡ phaseNumbered n ⌝ }
+{
+    if n == 0 {
+        return TwoPcPhase::Prepare;
+    }
+    if n == 1 {
+        return TwoPcPhase::Committed;
+    }
+    TwoPcPhase::Aborted
+}
+
+// A number above 255 gives its low eight digits.
+fn bytes_of(xs: &[u64], at: usize, k: usize) -> [u8; 32]
+    requires { ⌜ k ≤ 10000 ⌝ }
+    ensures { λ r. ⌜ r ≡ bytesAt (now (xs .entry)) at k ⌝ }
+{
+    let mut a = [0u8; 32];
+    let mut i: usize = 0;
+    while i < 32 {
+        a[i] = (numbers::number_behind(xs, at, k + i) % 256) as u8;
+        i += 1;
+    }
+    a
+}
+
+// The payload whose numbers start k places behind at.
+fn payload_of(xs: &[u64], at: usize, k: usize) -> Payload
+    requires { ⌜ k ≤ 9000 ⌝ }
+    ensures { λ r. ⌜ r ≡ payloadAt (now (xs .entry)) at k ⌝ }
+{
+    let held = held_numbered(numbers::number_behind(xs, at, k));
+    let phase = phase_numbered(numbers::number_behind(xs, at, k + 2));
+    let bytes = bytes_of(xs, at, k + 6);
+    let proposal_data = Data {
+        len: numbers::number_behind(xs, at, k + 3) as usize,
+        bytes,
+    };
+    let flags_bitmap = Bitmap {
+        len: numbers::number_behind(xs, at, k + 4) as usize,
+        marks: numbers::number_behind(xs, at, k + 5),
+    };
+    let packet = CeTwoPcPacket {
+        term: numbers::number_behind(xs, at, k + 1),
+        phase,
+        proposal_data,
+        flags_bitmap,
+    };
+    Payload { held, packet }
+}
+
+// The 64 payloads whose numbers start at a place, each behind the one before it.
+pub fn held_of(xs: &[u64], at: usize) -> [Payload; 64]
+    ensures { λ r. ⌜ r ≡ heldAt (now (xs .entry)) at ⌝ }
+{
+    let l = payload_of(xs, at, 0);
+    let mut a = [l; 64];
+    let mut i: usize = 0;
+    while i < 64 {
+        a[i] = payload_of(xs, at, i * 38);
+        i += 1;
+    }
+    a
+}
+
+// Bytes as numbers of 64 digits.
+fn widened(bytes: [u8; 32]) -> [u64; 32]
+    ensures { λ r. ⌜ r ≡ bytes ⌝ }
+{
+    let mut a = [0u64; 32];
+    let mut i: usize = 0;
+    while i < 32 {
+        a[i] = bytes[i] as u64;
+        i += 1;
+    }
+    a
+}
+
+fn payload_numbers(l: Payload) -> [u64; 6]
+    ensures { λ r. ⌜ r ≡ payloadNumbers l ⌝ }
+{
+    let held = l.held;
+    let p = l.packet;
+    let phase = p.phase;
+    let proposal_data = p.proposal_data;
+    let flags_bitmap = p.flags_bitmap;
+    [
+        held_number(held),
+        p.term,
+        phase_number(phase),
+        proposal_data.len as u64,
+        flags_bitmap.len as u64,
+        flags_bitmap.marks,
+    ]
+}
+
+fn put_payload(xs: &mut [u64], at: usize, k: usize, l: Payload)
+    requires { ⌜ k ≤ 9000 ⌝ }
+    ensures { λ _. ⌜ now (xs .exit) ≡ putPayload at k l (now (xs .entry)) ⌝ }
+{
+    let p = l.packet;
+    let proposal_data = p.proposal_data;
+    let bytes = proposal_data.bytes;
+    let first = payload_numbers(l);
+    let rest = widened(bytes);
+    numbers::put_run(xs, at, k, &first);
+    numbers::put_run(xs, at, k + 6, &rest);
+}
+
+pub fn put_held(xs: &mut [u64], at: usize, held: [Payload; 64])
+    ensures { λ _. ⌜ now (xs .exit) ≡ putHeld at held (now (xs .entry)) ⌝ }
+{
+    let mut i: usize = 0;
+    while i < 64 {
+        put_payload(xs, at, i * 38, held[i]);
+        i += 1;
+    }
+}
