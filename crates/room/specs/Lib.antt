@@ -1,7 +1,4 @@
 pub mod Rooms
 pub mod Readings
-pub mod Calls
+pub mod Slots
 pub mod Console
-pub mod Demand
-pub mod Texts
-pub mod Cases
