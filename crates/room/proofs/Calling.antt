@@ -35,9 +35,8 @@ use Rattle.room.specs.declared.room.Room.{Room}
 use Rattle.room.specs.declared.room.Round.{Round}
 use Rattle.room.specs.declared.room.Opening.{Opening}
 use Rattle.room.specs.declared.room.Proposal.{Proposal}
-use Rattle.room.specs.Rooms.{isPipeline, sizeOf, noesOf, openRefusal, emptyPayload, newRoom, confOf, openOf, proposeRefusal, proposedIn, withTerms, proposeOf, ceConf, ceState, raised, raisedAll, during, afterCapture, captureEarly, capturedBy, captureOf}
-use Rattle.room.specs.Calls.{captureSlots}
-use Rattle.room.specs.Demand.{heldAt}
+use Rattle.room.specs.Rooms.{isPipeline, sizeOf, noesOf, heldAt, openRefusal, emptyPayload, newRoom, confOf, openOf, proposeRefusal, proposedIn, withTerms, proposeOf, ceConf, ceState, raised, raisedAll, during, afterCapture, captureEarly, capturedBy, captureOf}
+use Rattle.room.specs.Slots.{captureSlots}
 use Rattle.room.proofs.Counting.{Counts, all-counts, ticked-counts, new-counts}
 use Rattle.room.proofs.Holding.{Good, Fit, AllGood, not-packet, grown-same, set-each, told-good, told-follows}
 use Rattle.room.proofs.Moments.{Inv, same-logs, Way, way-none, Quiet, quiet-way, first-quiet, last-quiet, Slot, round-way}

@@ -25,9 +25,8 @@ use Rattle.pipeline.proofs.Totals.{early-length}
 use Rattle.pipeline.proofs.Logs.{close-kept, preparing-kept}
 use Rattle.room.specs.declared.room.Room.{Room}
 use Rattle.room.specs.declared.room.Round.{Round}
-use Rattle.room.specs.Rooms.{sizeOf, pipeConf, pipeOf, withPipe, pipelineEarly, ranBy, pipelineOf}
-use Rattle.room.specs.Calls.{flooding, pipelineSlots}
-use Rattle.room.specs.Demand.{heldAt}
+use Rattle.room.specs.Rooms.{sizeOf, heldAt, pipeConf, pipeOf, withPipe, pipelineEarly, ranBy, pipelineOf}
+use Rattle.room.specs.Slots.{flooding, pipelineSlots}
 use Rattle.room.proofs.Counting.{Counts, kept-counts, all-counts, ticked-counts}
 use Rattle.room.proofs.Holding.{grown-same}
 use Rattle.room.proofs.Moments.{Inv, same-logs, Way, Quiet, first-quiet, last-quiet, Slot, round-way}

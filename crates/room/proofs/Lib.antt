@@ -4,8 +4,3 @@ pub mod Holding
 pub mod Moments
 pub mod Calling
 pub mod Flooding
-pub mod Demand
-pub mod Texts
-pub mod Resting
-pub mod Still
-pub mod Cases

@@ -12,9 +12,8 @@ use Rattle.merges.specs.declared.merging.Held.the-variants.{Packet}
 use Rattle.pipeline.proofs.Growth as growth
 use Rattle.pipeline.proofs.Logs.{AllKept, logOf, all-more}
 use Rattle.room.specs.declared.room.Room.{Room}
-use Rattle.room.specs.Rooms.{sizeOf, noesOf}
-use Rattle.room.specs.Calls.{stagesFrom}
-use Rattle.room.specs.Demand.{heldAt}
+use Rattle.room.specs.Rooms.{sizeOf, noesOf, heldAt}
+use Rattle.room.specs.Slots.{stagesFrom}
 use Rattle.room.proofs.Counting.{Counts}
 use Rattle.room.proofs.Holding.{AllGood, grown-same, grown-more}
 

@@ -1,6 +1,3 @@
 pub mod Rooms
 pub mod Readings
-pub mod Calls
-pub mod Demand
-pub mod Texts
-pub mod Cases
+pub mod Slots

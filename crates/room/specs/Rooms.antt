@@ -12,7 +12,7 @@ use Rattle.graph.specs.Paths.{lengthOf}
 use Rattle.graph.specs.declared.network.NetworkGraph.{NetworkGraph}
 use Rattle.graph.specs.declared.network.Built.{Built}
 use Rattle.merges.specs.Votes.{add64, noOf}
-use Rattle.merges.specs.Merging.{proposalOf}
+use Rattle.merges.specs.Merging.{nobody, proposalOf}
 use Rattle.packets.specs.declared.TwoPcPhase.the-variants.{Prepare}
 use Rattle.packets.specs.declared.CeTwoPcPacket.{CeTwoPcPacket}
 use Rattle.merges.specs.declared.merging.Held.the-variants.{Empty, Packet}
@@ -56,6 +56,10 @@ votingIn c = record { n = c .graph .n; «abort_probability» = c .settings .«ab
 
 abbrev pub noesOf : RoomConf → ℕ → ℕ → Bool
 noesOf c = noOf (votingIn c)
+
+-- what position v holds
+abbrev pub heldAt : Room → ℕ → Payload
+heldAt r v = getD (r .terms .held) v nobody
 
 -- ---- opening ("Refusals from the input", 2 to 7)
 

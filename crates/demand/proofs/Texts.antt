@@ -18,17 +18,17 @@ use Rattle.packets.specs.declared.CeRead.{CeRead}
 use Rattle.merges.specs.declared.merging.Held.{Held}
 use Rattle.merges.specs.declared.merging.Held.the-variants.{Empty, Unreadable, Packet}
 use Rattle.packets.proofs.Promises.{ce-promises}
 use Rattle.room.specs.declared.room.RoomKind.{RoomKind}
 use Rattle.room.specs.declared.room.RoomKind.the-variants as kinds
 use Rattle.room.specs.declared.room.Room.{Room}
 use Rattle.room.specs.declared.readings.TextReading.{TextReading}
-use Rattle.room.specs.Rooms.{sizeOf, openOf}
+use Rattle.room.specs.Rooms.{sizeOf, heldAt, openOf}
 use Rattle.room.specs.Readings.{ceAnswerBy, ceLeftBy, textBy, textOf, leftBy, textLeft}
-use Rattle.room.specs.Demand.{heldAt, HoldsPhase}
-use Rattle.room.specs.Texts.{textIn, heldText, GivesPhase, SameTexts, TextsGive, Demand3Texts}
+use Rattle.demand.specs.Demand.{HoldsPhase}
+use Rattle.demand.specs.Texts.{textIn, heldText, GivesPhase, SameTexts, TextsGive, Demand3Texts}
 use Rattle.room.proofs.Moments.{Inv}
 use Rattle.room.proofs.Calling.{opened}
-use Rattle.room.proofs.Demand.{ran, demand3}
+use Rattle.demand.proofs.Demand.{ran, demand3}
 
 -- ---- reading a text back
 

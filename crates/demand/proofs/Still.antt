@@ -25,12 +25,12 @@ use Rattle.pipeline.specs.declared.pipeline.PipelineConf.{PipelineConf}
 use Rattle.pipeline.specs.declared.pipeline.Pipeline.{Pipeline}
 use Rattle.pipeline.specs.declared.pipeline.RoundAnswer.{RoundAnswer}
 use Rattle.pipeline.proofs.Sums.{upto-holds}
 use Rattle.room.specs.declared.room.Room.{Room}
 use Rattle.room.specs.declared.room.Round.{Round}
 use Rattle.room.specs.Rooms.{sizeOf, afterCapture, pipeConf, pipeOf, pipelineEarly, ranBy, pipelineOf}
-use Rattle.room.specs.Calls.{stagesFrom, captureSlots, pipelineSlots}
-use Rattle.room.specs.Cases.{SameCounts, Unmoved, CaptureOfNoSlots}
-use Rattle.room.proofs.Resting.{start, early-none, round-is}
+use Rattle.room.specs.Slots.{stagesFrom, captureSlots, pipelineSlots}
+use Rattle.demand.specs.Cases.{SameCounts, Unmoved, CaptureOfNoSlots}
+use Rattle.demand.proofs.Resting.{start, early-none, round-is}
 
 -- ---- counts stay
 

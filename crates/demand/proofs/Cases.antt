@@ -31,11 +31,11 @@ use Rattle.pipeline.specs.Pending.{nackOf, joinMarks, commonMarks, withoutMark,
 use Rattle.pipeline.specs.Pipeline.{dataOf, packetOf, samePacket, recordTx, isFresh, beginTx, recordDue, recordJudged, abortOf, knownVotes, roundPacket, prepareRound, isNew, hearNew, mergeRound, recordAborts, takeUp, isAnswer, answerNack, processOne, partsOf, processAt, processAll, shorterAt, shortestLog, progressAt, progressAll, stopsAt}
 use Rattle.pipeline.specs.Flood.{floodLength, framed, hearAt, hearersOf, sendAt, floodPlan, afterFlood, afterListen, nextNode, turnAt, turnedAll as floodTurned, nobodyFloods, sentAfter, dueAfter, floodSlot, resetAt, resetAll, floodStart, floodRound}
 use Rattle.pipeline.specs.Round.{newPipeline, runRound, roundAnswer, deliverAll, isCovered, coverAt, coveredOf, initiatorOf, preparing, floodConf, floodFrom, closeRound, floodOf, earlyOf, lateOf, lateAnswer}
 use Rattle.room.specs.Rooms.{ranBy, pipelineOf, pipelineRefusal, openRefusal, roundLength, newRoom, openOf, proposeRefusal, proposedIn, proposeOf, raised, raisedAll, afterCapture, captureRefusal, capturedBy, captureOf}
-use Rattle.room.specs.Calls.{stagesFrom, captureSlots, pipelineSlots}
-use Rattle.room.specs.Cases.{MinusZero, One, MarkedCases}
-use Rattle.room.proofs.Resting.{alone-proposes, alone-ends}
-use Rattle.room.proofs.Still.{capture-none, pipeline-none, no-slots}
+use Rattle.room.specs.Slots.{stagesFrom, captureSlots, pipelineSlots}
+use Rattle.demand.specs.Cases.{MinusZero, One, MarkedCases}
+use Rattle.demand.proofs.Resting.{alone-proposes, alone-ends}
+use Rattle.demand.proofs.Still.{capture-none, pipeline-none, no-slots}
 
 -- ---- losses
 

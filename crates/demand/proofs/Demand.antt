@@ -12,15 +12,15 @@ use Rattle.merges.specs.Sound.{Sound, SoundBy, Claim, AllYes, SomeNo}
 use Rattle.packets.specs.declared.TwoPcPhase.{TwoPcPhase}
 use Rattle.packets.specs.declared.TwoPcPhase.the-variants.{Prepare, Committed, Aborted}
 use Rattle.engines.specs.Nodes.{total}
 use Rattle.room.specs.declared.room.RoomConf.{RoomConf}
 use Rattle.room.specs.declared.room.Room.{Room}
-use Rattle.room.specs.Rooms.{sizeOf, noesOf, openOf}
-use Rattle.room.specs.Calls.{Call, Propose, CaptureRound, PipelineRound, Read, handed, ticks, after, elapsed, moments}
-use Rattle.room.specs.Demand.{heldAt, HoldsPhase, AllVoteYes, Holds, Demand3}
+use Rattle.room.specs.Rooms.{sizeOf, noesOf, heldAt, openOf}
+use Rattle.demand.specs.Calls.{Call, Propose, CaptureRound, PipelineRound, Read, handed, ticks, after, elapsed, moments}
+use Rattle.demand.specs.Demand.{HoldsPhase, AllVoteYes, Holds, Demand3}
 use Rattle.room.proofs.Counting.{first-total}
 use Rattle.room.proofs.Moments.{Inv, Le, le-same, le-more, Before, before-cases, then-later, Way, way-none}
 use Rattle.room.proofs.Calling.{opened, term-at, propose-way, capture-way}
 use Rattle.room.proofs.Flooding.{pipeline-way}
 
 -- ---- one call
 

@@ -26,14 +26,13 @@ use Rattle.engines.specs.Capture.{over, begun, goalMet, finished, slotOf, rowsD
 use Rattle.engines.specs.declared.capture.CeRound.{CeRound}
 use Rattle.engines.specs.declared.capture.CeState.{CeState}
 use Rattle.pipeline.proofs.Sums.{inc-is}
 use Rattle.room.specs.declared.room.RoomKind.the-variants as kinds
 use Rattle.room.specs.declared.room.Room.{Room}
 use Rattle.room.specs.declared.room.Proposal.{Proposal}
 use Rattle.room.specs.declared.room.Round.{Round}
-use Rattle.room.specs.Rooms.{sizeOf, noesOf, withTerms, proposeRefusal, proposedIn, proposeOf, ceConf, ceState, during, afterCapture, captureRefusal, capturedBy, captureOf}
-use Rattle.room.specs.Calls.{stagesFrom, captureSlots}
-use Rattle.room.specs.Demand.{heldAt}
-use Rattle.room.specs.Cases.{AloneProposes, AloneEnds}
+use Rattle.room.specs.Rooms.{sizeOf, noesOf, heldAt, withTerms, proposeRefusal, proposedIn, proposeOf, ceConf, ceState, during, afterCapture, captureRefusal, capturedBy, captureOf}
+use Rattle.room.specs.Slots.{stagesFrom, captureSlots}
+use Rattle.demand.specs.Cases.{AloneProposes, AloneEnds}
 
 -- ---- a loop that ends with its first step
 

@@ -13,13 +13,13 @@ use Rattle.packets.specs.declared.CeRead.{CeRead}
 use Rattle.merges.specs.declared.merging.Held.{Held}
 use Rattle.merges.specs.declared.merging.Held.the-variants.{Empty, Unreadable, Packet}
 use Rattle.engines.specs.declared.settings.Settings.{Settings}
 use Rattle.room.specs.declared.room.RoomKind.{RoomKind}
 use Rattle.room.specs.declared.room.RoomKind.the-variants as kinds
 use Rattle.room.specs.declared.room.Room.{Room}
-use Rattle.room.specs.Rooms.{sizeOf, openOf}
+use Rattle.room.specs.Rooms.{sizeOf, heldAt, openOf}
 use Rattle.room.specs.Readings.{textOf, textLeft}
-use Rattle.room.specs.Calls.{Call, after, moments}
-use Rattle.room.specs.Demand.{heldAt, HoldsPhase, AllVoteYes, SomeVoteNo}
+use Rattle.demand.specs.Calls.{Call, after, moments}
+use Rattle.demand.specs.Demand.{HoldsPhase, AllVoteYes, SomeVoteNo}
 
 -- the text of a packet that is held; of what is no packet there is none
 abbrev pub textIn : CeTwoPcPacket → Held → List ℕ

@@ -19,15 +19,14 @@ use Rattle.engines.specs.Nodes.{noNode}
 use Rattle.engines.specs.Ce.{payloadLen}
 use Rattle.engines.specs.declared.node.Node.{Node}
 use Rattle.engines.specs.declared.settings.Settings.{Settings}
 use Rattle.room.specs.declared.room.RoomKind.{RoomKind}
 use Rattle.room.specs.declared.room.RoomKind.the-variants as kinds
 use Rattle.room.specs.declared.room.Room.{Room}
 use Rattle.room.specs.declared.room.Opening.{Opening}
 use Rattle.room.specs.declared.room.Proposal.{Proposal}
 use Rattle.room.specs.declared.room.Round.{Round}
-use Rattle.room.specs.Rooms.{isPipeline, sizeOf, openOf, proposeOf, captureOf, pipelineOf}
-use Rattle.room.specs.Calls.{captureSlots, pipelineSlots}
-use Rattle.room.specs.Demand.{heldAt}
+use Rattle.room.specs.Rooms.{isPipeline, sizeOf, heldAt, openOf, proposeOf, captureOf, pipelineOf}
+use Rattle.room.specs.Slots.{captureSlots, pipelineSlots}
 
 -- ---- what a room shows
 

@@ -3,22 +3,20 @@ use mathlib.Core.Path.{_≡_}
 use mathlib.Core.List.{List, [], _∷_, List·Memᴰ}
 use Prim.Native.Nat.{ℕ, _*_, _<_, _^_}
 use lib.ListN.{getD, take}
-use Rattle.merges.specs.Merging.{nobody}
 use Rattle.merges.specs.Sound.{AllYes, SomeNo}
 use Rattle.packets.specs.declared.TwoPcPhase.{TwoPcPhase}
 use Rattle.packets.specs.declared.TwoPcPhase.the-variants.{Prepare, Committed, Aborted}
 use Rattle.merges.specs.declared.merging.Held.the-variants.{Packet}
-use Rattle.merges.specs.declared.merging.Payload.{Payload}
 use Rattle.engines.specs.Nodes.{total}
 use Rattle.engines.specs.declared.settings.Settings.{Settings}
 use Rattle.pipeline.specs.Pending.{noEntry}
 use Rattle.pipeline.specs.Pipeline.{noState}
 use Rattle.pipeline.specs.declared.two_pc_pipeline.TxLog.{TxLog}
 use Rattle.room.specs.declared.room.RoomKind.{RoomKind}
 use Rattle.room.specs.declared.room.RoomKind.the-variants as kinds
 use Rattle.room.specs.declared.room.Room.{Room}
-use Rattle.room.specs.Rooms.{sizeOf, noesOf, openOf}
-use Rattle.room.specs.Calls.{Call, after, elapsed, moments}
+use Rattle.room.specs.Rooms.{sizeOf, noesOf, heldAt, openOf}
+use Rattle.demand.specs.Calls.{Call, after, elapsed, moments}
 
 -- the log of position v
 abbrev pub logAt : Room → ℕ → TxLog
@@ -28,10 +26,6 @@ logAt r v = getD (r .rounds .states) v noState .log
 pub record Logged (a b : TxLog) (k : ℕ) : Type 0 where
   pub there : k < b .len
   pub same : getD (b .entries) k noEntry ≡ getD (a .entries) k noEntry
-
--- what position v holds
-abbrev pub heldAt : Room → ℕ → Payload
-heldAt r v = getD (r .terms .held) v nobody
 
 -- Position v holds phase f for term t. An empty one holds none; nor does any position of a pipeline room.
 pub record HoldsPhase (r : Room) (v t : ℕ) (f : TwoPcPhase) : Type 0 where

@@ -1,0 +1,5 @@
+pub mod Demand
+pub mod Texts
+pub mod Resting
+pub mod Still
+pub mod Cases

@@ -1,0 +1,1 @@
+// No code: demand 3 over lists of a room's calls, what the texts give and the marked cases, stated and proved of the rules that the room's contracts cite.
