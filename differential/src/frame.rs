@@ -19,8 +19,6 @@ const LAST: u64 = u32::MAX as u64;
 const DIGITS: usize = 60000;
 /// Slots of one round that the Rust is made to run here; a longer one has to end earlier.
 const SHORT: u64 = 300;
-/// Slots of a capture round that lacks words: `planner` runs it to its last slot before it says 16.
-const LACKING: u32 = 2000;
 
 #[derive(Clone, Debug)]
 struct Frame {
@@ -245,11 +243,6 @@ impl Item {
             None => Ran { refusal: 1, bytes: 0, drawn: 0 },
             Some(f) => f.ran()?,
         };
-        if let (Some(f), 16) = (&frame, ran.refusal) {
-            if !f.is_pipeline() && f.slots > LACKING {
-                return None;
-            }
-        }
         let due = match (&frame, ran.refusal) {
             (Some(f), 0) => format!("{} {}", String::from_utf8(f.name.clone()).unwrap(), ran.bytes),
             (_, k) => format!("refused {k}"),
@@ -371,7 +364,7 @@ fn well_formed(r: &mut Prng) -> Frame {
         let slots = match r.below(5) {
             0 => r.below(6) as u32,
             1 => u32::MAX - r.below(200) as u32,
-            2 => LACKING,
+            2 => 2000,
             _ => r.below(60) as u32,
         };
         (*r.pick(&[0, 1, 2, 3, 5, 10, 40, 100, u32::MAX]), slots)

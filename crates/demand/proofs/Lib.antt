@@ -3,3 +3,4 @@ pub mod Texts
 pub mod Resting
 pub mod Still
 pub mod Cases
+pub mod Rounds

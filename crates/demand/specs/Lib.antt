@@ -2,3 +2,4 @@ pub mod Calls
 pub mod Demand
 pub mod Texts
 pub mod Cases
+pub mod Rounds

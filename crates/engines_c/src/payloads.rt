@@ -5,12 +5,12 @@ ghost use Prim.Native.Nat.{_+_, _≤_};
 ghost use Rattle.packets_c.specs.Console.{phaseNumber, phaseNumbered};
 ghost use Rattle.engines_c.specs.Payloads.{heldNumber, heldNumbered, bytesAt, payloadAt, heldAt, payloadNumbers, putPayload, putHeld};
 use super::numbers;
+use merges::merging::Held;
+use merges::merging::Payload;
 use packets::Bitmap;
 use packets::CeTwoPcPacket;
 use packets::Data;
 use packets::TwoPcPhase;
-use merges::merging::Held;
-use merges::merging::Payload;
 
 fn held_number(h: Held) -> u64
     ensures { λ r. ⌜ r ≡ heldNumber h ⌝ }

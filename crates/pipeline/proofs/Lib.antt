@@ -8,6 +8,7 @@ pub mod Growth
 pub mod Rounding
 pub mod Logs
 pub mod Totals
+pub mod Ending
 pub mod PipelineCases
 pub mod Written
 pub mod Packing

@@ -10,7 +10,8 @@ use Rattle.marks.specs.Sets.{and-true, true-and}
 use Rattle.packets.specs.Packets.{pipelineText, ValidPipeline}
 use Rattle.packets.proofs.Promises.{pipeline-promises}
 use Rattle.loops.specs.Pick.{either}
-use Rattle.packets_c.specs.Console.{phaseNumber}
+use Rattle.packets.specs.declared.TwoPcPhase.{TwoPcPhase}
+use Rattle.packets.specs.declared.TwoPcPhase.the-variants.{Prepare, Committed, Aborted}
 use Rattle.packets.specs.declared.Data.{Data}
 use Rattle.packets.specs.declared.PiggybackTx.{PiggybackTx}
 use Rattle.packets.specs.declared.PiggybackTx.the-variants as tx
@@ -38,11 +39,16 @@ abbrev txTag : PiggybackTx → ℕ
 txTag tx.Absent = 0
 txTag (tx.Present t) = suc t
 
+abbrev phaseTag : TwoPcPhase → ℕ
+phaseTag Prepare = 0
+phaseTag Committed = 1
+phaseTag Aborted = 2
+
 abbrev stateTag : PiggybackState → ℕ
 stateTag state.Absent = 0
-stateTag (state.Present p) = suc (phaseNumber p)
+stateTag (state.Present p) = suc (phaseTag p)
 
-outcome-same : (o p : Bool) → phaseNumber (phaseOf o) ≡ phaseNumber (phaseOf p) → o ≡ p
+outcome-same : (o p : Bool) → phaseTag (phaseOf o) ≡ phaseTag (phaseOf p) → o ≡ p
 outcome-same true true h = refl
 outcome-same false false h = refl
 outcome-same true false h = absurd (omega arith)
