@@ -1,556 +1,289 @@
-// Packet texts at the limits and off the grammar: a line for each case, with its name and what the reader or the writer answers.
-// A text that is read is written again, so a wrong answer, a wrong field and a wrong byte all change what is printed.
-use packets::Bitmap;
-use packets::CeTwoPcPacket;
-use packets::Data;
-use packets::PiggybackState;
-use packets::PiggybackTx;
-use packets::TwoPcPacket;
-use packets::TwoPcPhase;
-use packets::two_pc_ce;
-use packets::two_pc_pipeline;
+// Reads packet texts, writes and merges them, by the entries for C, and prints the answers; the file `stdout` holds the Rust's answers to the
+// same questions. Both files are made by
+// `(differential/run --sample packets; differential/run --sample merge) | differential/packet_cases.py`, which adds the cases at the limits, off
+// the grammar and of buffers that are too small. A line is words with single blanks between them: numbers in decimal; texts and data in
+// hexadecimal, - for an empty one. What stands behind the words of a question is a note, and is not read.
+//   1 text length                            a capture text and its stated length
+//   2 text length                            a pipeline text
+//   3 data size place numbers                a capture packet of 5 numbers, to be written into a buffer of that size at that place
+//   4 data size place numbers                a pipeline packet of 12 numbers
+//   5 local received n abort seed position   a merge; the abort probability is told by its bits
+// A text that is read is written again, into a buffer that has one byte before it and one behind. The answer to 1 to 4 is the place behind what was
+// written, and the whole buffer, where a dot is a byte that nobody wrote; or the refusal, and the buffer if it is the writing that was refused.
+// The answer to 5 is 1 if there was news, 0 if not, and the local text afterwards.
+ghost use mathlib.Core.Path.{_≡_};
+ghost use Prim.Native.Nat.{_≤_};
+ghost use lib.Ieee.{binary64, nanBits};
+ghost use lib.ListN.{length};
+use packets_c::console;
+use packets_c::desk;
+
+// Where the words of a line start and end, and where the word that is being read starts.
+struct Line {
+    count: usize,
+    starts: [usize; 16],
+    ends: [usize; 16],
+    start: usize,
+}
+
+fn line_from(start: usize) -> Line {
+    Line {
+        count: 0,
+        starts: [0usize; 16],
+        ends: [0usize; 16],
+        start,
+    }
+}
+
+fn with_word(l: Line, end: usize, start: usize) -> Line {
+    let mut r = l;
+    let count = l.count;
+    if count < 16 {
+        r.starts[count] = l.start;
+        r.ends[count] = end;
+        r.count = count + 1;
+        r.start = start;
+    }
+    r
+}
+
+// An empty word if there is none of that number.
+fn word(text: &[u8], l: Line, k: usize) -> &[u8] {
+    if k < 16 {
+        let starts = l.starts;
+        let ends = l.ends;
+        let start = starts[k];
+        let end = ends[k];
+        if start <= end {
+            if end <= text.len() {
+                return &text[start..end];
+            }
+        }
+    }
+    &text[0..0]
+}
+
+fn with_digit(v: u64, b: u8) -> u64 {
+    match b {
+        48..=57 => {
+            let d = (b - 48) as u64;
+            if v <= (18446744073709551615 - d) / 10 {
+                return v * 10 + d;
+            }
+            v
+        }
+        _ => v,
+    }
+}
+
+fn number(digits: &[u8]) -> u64 {
+    let mut v: u64 = 0;
+    let mut i: usize = 0;
+    while i < digits.len() {
+        v = with_digit(v, digits[i]);
+        i += 1;
+    }
+    v
+}
+
+fn numbers_of(text: &[u8], l: Line) -> [u64; 16] {
+    let mut at = [0u64; 16];
+    let mut i: usize = 0;
+    while i < 16 {
+        at[i] = number(word(text, l, i));
+        i += 1;
+    }
+    at
+}
+
+fn half_byte(b: u8) -> u8
+    ensures { λ r. ⌜ r ≤ 15 ⌝ }
+{
+    match b {
+        48..=57 => b - 48,
+        65..=70 => b - 55,
+        _ => 0,
+    }
+}
+
+fn put(out: &mut [u8], i: usize, high: u8, low: u8) {
+    if i < out.len() {
+        out[i] = half_byte(high) * 16 + half_byte(low);
+    }
+}
+
+// How many bytes of `out` the digits fill. Digits for which there is no room are left out.
+fn bytes_of(digits: &[u8], out: &mut [u8]) -> usize
+    ensures { λ r. ⌜ r ≤ length (now (out .entry)) ⌝ }
+{
+    let mut i: usize = 0;
+    while i < digits.len() / 2 {
+        if i >= out.len() {
+            return i;
+        }
+        put(out, i, digits[2 * i], digits[2 * i + 1]);
+        i += 1;
+    }
+    i
+}
+
+// The field of the exponent is full, and that of the digits is not 0.
+fn is_nan(bits: u64) -> bool
+    ensures { λ r. ⌜ r ≡ nanBits binary64 bits ⌝ }
+{
+    if bits % 9223372036854775808 / 4503599627370496 != 2047 {
+        return false;
+    }
+    bits % 4503599627370496 != 0
+}
+
+// Every NaN is one value, which only arithmetic makes: the language makes none of bits.
+fn float_of(bits: u64) -> f64 {
+    if is_nan(bits) {
+        return 0.0 / 0.0;
+    }
+    f64::from_bits(bits)
+}
+
+fn at_most(n: u64, most: usize) -> usize
+    ensures { λ r. ⌜ r ≤ most ⌝ }
+{
+    let k = n as usize;
+    if k <= most {
+        return k;
+    }
+    most
+}
 
 fn say(s: &[u8]) {
     io::write_all(1, s);
 }
 
 fn say_refusal(n: u64) {
-    if n == 9 {
-        say(b"refusal 9\n");
-        return;
-    }
-    if n == 10 {
-        say(b"refusal 10\n");
-        return;
-    }
-    say(b"another refusal\n");
+    say(b"refusal ");
+    io::print_decimal(1, n);
 }
 
-// The first n bytes of a buffer.
-fn say_part(buf: &[u8], n: usize) {
-    if n <= buf.len() {
-        say(&buf[..n]);
+fn say_wrote(refusal: u64, next: u64, buf: &[u8]) {
+    if refusal == 0 {
+        io::print_decimal(1, next);
+    } else {
+        say_refusal(refusal);
+    }
+    say(b" ");
+    say(buf);
+}
+
+fn write_ce_into(buf: &mut [u8], data: &[u8], place: u64, numbers: &[u64]) {
+    let mut next: u64 = 0;
+    let k = console::ce_packet_write(numbers, data, buf, place, &mut next);
+    say_wrote(k, next, buf);
+}
+
+fn write_ce(data: &[u8], size: u64, place: u64, numbers: &[u64]) {
+    let mut buf = [46u8; 1024];
+    let end = at_most(size, 1024);
+    write_ce_into(&mut buf[0..end], data, place, numbers);
+}
+
+fn write_pipeline_into(buf: &mut [u8], data: &[u8], place: u64, numbers: &[u64]) {
+    let mut next: u64 = 0;
+    let k = console::pipeline_packet_write(numbers, data, buf, place, &mut next);
+    say_wrote(k, next, buf);
+}
+
+fn write_pipeline(data: &[u8], size: u64, place: u64, numbers: &[u64]) {
+    let mut buf = [46u8; 1024];
+    let end = at_most(size, 1024);
+    write_pipeline_into(&mut buf[0..end], data, place, numbers);
+}
+
+fn read_ce(text: &[u8], len: u64) {
+    let mut numbers = [0u64; 5];
+    let mut data = [0u8; 32];
+    let k = console::ce_packet_read(text, len, &mut numbers, &mut data);
+    if k != 0 {
+        say_refusal(k);
+        return;
+    }
+    write_ce(&data, std::num::wrapping_add_u64(len, 2), 1, &numbers);
+}
+
+fn read_pipeline(text: &[u8], len: u64) {
+    let mut numbers = [0u64; 12];
+    let mut data = [0u8; 32];
+    let k = console::pipeline_packet_read(text, len, &mut numbers, &mut data);
+    if k != 0 {
+        say_refusal(k);
+        return;
+    }
+    write_pipeline(&data, std::num::wrapping_add_u64(len, 2), 1, &numbers);
+}
+
+fn merge(local: &mut [u8], n: usize, digits: &[u8], at: &[u64; 16]) {
+    let mut received = [46u8; 1024];
+    let m = bytes_of(digits, &mut received) as u64;
+    let abort = float_of(at[4]);
+    let mut len = n as u64;
+    let mut news: u64 = 0;
+    let k = desk::ce_packet_merge(
+        local,
+        &mut len,
+        &received,
+        m,
+        at[3],
+        at[6],
+        abort,
+        at[5],
+        &mut news,
+    );
+    if k != 0 {
+        say_refusal(k);
+        return;
+    }
+    io::print_decimal(1, news);
+    say(b" ");
+    let end = at_most(len, local.len());
+    say(&local[0..end]);
+}
+
+fn answer(text: &[u8], l: Line) {
+    let at = numbers_of(text, l);
+    let mut bytes = [46u8; 1024];
+    let n = bytes_of(word(text, l, 1), &mut bytes);
+    match at[0] {
+        1 => read_ce(&bytes[0..n], at[2]),
+        2 => read_pipeline(&bytes[0..n], at[2]),
+        3 => write_ce(&bytes[0..n], at[2], at[3], &at[4..16]),
+        4 => write_pipeline(&bytes[0..n], at[2], at[3], &at[4..16]),
+        5 => merge(&mut bytes, n, word(text, l, 2), &at),
+        _ => {}
     }
     say(b"\n");
 }
 
-// The text behind one byte, and the byte behind it: dots, unless they were touched.
-fn say_ce(p: CeTwoPcPacket) {
-    let mut buf = [46u8; 600];
-    let w = two_pc_ce::write_ce_packet(&mut buf, 1, p);
-    if w.refusal != 0 {
-        say_refusal(w.refusal);
-        return;
+fn feed(l: Line, text: &[u8], i: usize) -> Line {
+    if i >= text.len() {
+        return l;
     }
-    let next = w.next;
-    if next == 0 {
-        say(b"too short\n");
-        return;
-    }
-    if next >= 600 {
-        say(b"too long\n");
-        return;
-    }
-    if two_pc_ce::ce_text_len(p) != next - 1 {
-        say(b"another length: ");
-    }
-    say_part(&buf, next + 1);
-}
-
-fn say_pipeline(p: TwoPcPacket) {
-    let mut buf = [46u8; 800];
-    let w = two_pc_pipeline::write_pipeline_packet(&mut buf, 1, p);
-    if w.refusal != 0 {
-        say_refusal(w.refusal);
-        return;
-    }
-    let next = w.next;
-    if next == 0 {
-        say(b"too short\n");
-        return;
-    }
-    if next >= 800 {
-        say(b"too long\n");
-        return;
-    }
-    if two_pc_pipeline::pipeline_text_len(p) != next - 1 {
-        say(b"another length: ");
-    }
-    say_part(&buf, next + 1);
-}
-
-fn ce(name: &[u8], s: &[u8], len: usize) {
-    say(name);
-    let r = two_pc_ce::read_ce_packet(s, len);
-    if r.refusal != 0 {
-        say_refusal(r.refusal);
-        return;
-    }
-    let p = r.packet;
-    say_ce(p);
-}
-
-fn pipeline(name: &[u8], s: &[u8], len: usize) {
-    say(name);
-    let r = two_pc_pipeline::read_pipeline_packet(s, len);
-    if r.refusal != 0 {
-        say_refusal(r.refusal);
-        return;
-    }
-    let p = r.packet;
-    say_pipeline(p);
-}
-
-fn ce_all(name: &[u8], s: &[u8]) {
-    ce(name, s, s.len());
-}
-
-fn pipeline_all(name: &[u8], s: &[u8]) {
-    pipeline(name, s, s.len());
-}
-
-fn capture_limits() {
-    ce_all(
-        b"bitmap of 64: ",
-        b"{\"term\":1,\"phase\":\"Prepare\",\"proposal_data\":[116,120,49],\"flags_bitmap\":[true,true,true,true,true,true,true,true,true,true,true,true,true,true,true,true,true,true,true,true,true,true,true,true,true,true,true,true,true,true,true,true,true,true,true,true,true,true,true,true,true,true,true,true,true,true,true,true,true,true,true,true,true,true,true,true,true,true,true,true,true,true,true,true]}",
-    );
-    ce_all(
-        b"bitmap of 65: ",
-        b"{\"term\":1,\"phase\":\"Prepare\",\"proposal_data\":[116,120,49],\"flags_bitmap\":[true,true,true,true,true,true,true,true,true,true,true,true,true,true,true,true,true,true,true,true,true,true,true,true,true,true,true,true,true,true,true,true,true,true,true,true,true,true,true,true,true,true,true,true,true,true,true,true,true,true,true,true,true,true,true,true,true,true,true,true,true,true,true,true,true]}",
-    );
-    ce_all(
-        b"bitmap empty: ",
-        b"{\"term\":1,\"phase\":\"Prepare\",\"proposal_data\":[116,120,49],\"flags_bitmap\":[]}",
-    );
-    ce_all(
-        b"data of 32: ",
-        b"{\"term\":1,\"phase\":\"Prepare\",\"proposal_data\":[255,255,255,255,255,255,255,255,255,255,255,255,255,255,255,255,255,255,255,255,255,255,255,255,255,255,255,255,255,255,255,255],\"flags_bitmap\":[true,false]}",
-    );
-    ce_all(
-        b"data of 33: ",
-        b"{\"term\":1,\"phase\":\"Prepare\",\"proposal_data\":[0,0,0,0,0,0,0,0,0,0,0,0,0,0,0,0,0,0,0,0,0,0,0,0,0,0,0,0,0,0,0,0,0],\"flags_bitmap\":[true,false]}",
-    );
-    ce_all(
-        b"data empty: ",
-        b"{\"term\":1,\"phase\":\"Prepare\",\"proposal_data\":[],\"flags_bitmap\":[true,false]}",
-    );
-    ce_all(
-        b"byte 255: ",
-        b"{\"term\":1,\"phase\":\"Prepare\",\"proposal_data\":[255],\"flags_bitmap\":[true,false]}",
-    );
-    ce_all(
-        b"byte 256: ",
-        b"{\"term\":1,\"phase\":\"Prepare\",\"proposal_data\":[256],\"flags_bitmap\":[true,false]}",
-    );
-    ce_all(
-        b"term 0: ",
-        b"{\"term\":0,\"phase\":\"Prepare\",\"proposal_data\":[116,120,49],\"flags_bitmap\":[true,false]}",
-    );
-    ce_all(
-        b"greatest term: ",
-        b"{\"term\":18446744073709551615,\"phase\":\"Prepare\",\"proposal_data\":[116,120,49],\"flags_bitmap\":[true,false]}",
-    );
-    ce_all(
-        b"term one more: ",
-        b"{\"term\":18446744073709551616,\"phase\":\"Prepare\",\"proposal_data\":[116,120,49],\"flags_bitmap\":[true,false]}",
-    );
-    ce_all(
-        b"term of 21 digits: ",
-        b"{\"term\":100000000000000000000,\"phase\":\"Prepare\",\"proposal_data\":[116,120,49],\"flags_bitmap\":[true,false]}",
-    );
-}
-
-fn capture_limits_2() {
-    ce_all(
-        b"committed: ",
-        b"{\"term\":1,\"phase\":\"Committed\",\"proposal_data\":[116,120,49],\"flags_bitmap\":[true,false]}",
-    );
-    ce_all(
-        b"aborted: ",
-        b"{\"term\":1,\"phase\":\"Aborted\",\"proposal_data\":[116,120,49],\"flags_bitmap\":[true,false]}",
-    );
-    ce_all(
-        b"longest: ",
-        b"{\"term\":18446744073709551615,\"phase\":\"Committed\",\"proposal_data\":[255,255,255,255,255,255,255,255,255,255,255,255,255,255,255,255,255,255,255,255,255,255,255,255,255,255,255,255,255,255,255,255],\"flags_bitmap\":[false,false,false,false,false,false,false,false,false,false,false,false,false,false,false,false,false,false,false,false,false,false,false,false,false,false,false,false,false,false,false,false,false,false,false,false,false,false,false,false,false,false,false,false,false,false,false,false,false,false,false,false,false,false,false,false,false,false,false,false,false,false,false,false]}",
-    );
-}
-
-fn capture_numbers() {
-    ce_all(
-        b"leading zero: ",
-        b"{\"term\":01,\"phase\":\"Prepare\",\"proposal_data\":[116,120,49],\"flags_bitmap\":[true,false]}",
-    );
-    ce_all(
-        b"two zeros: ",
-        b"{\"term\":00,\"phase\":\"Prepare\",\"proposal_data\":[116,120,49],\"flags_bitmap\":[true,false]}",
-    );
-    ce_all(
-        b"minus zero: ",
-        b"{\"term\":-0,\"phase\":\"Prepare\",\"proposal_data\":[116,120,49],\"flags_bitmap\":[true,false]}",
-    );
-    ce_all(
-        b"negative: ",
-        b"{\"term\":-1,\"phase\":\"Prepare\",\"proposal_data\":[116,120,49],\"flags_bitmap\":[true,false]}",
-    );
-    ce_all(
-        b"plus: ",
-        b"{\"term\":+1,\"phase\":\"Prepare\",\"proposal_data\":[116,120,49],\"flags_bitmap\":[true,false]}",
-    );
-    ce_all(
-        b"fraction: ",
-        b"{\"term\":1.0,\"phase\":\"Prepare\",\"proposal_data\":[116,120,49],\"flags_bitmap\":[true,false]}",
-    );
-    ce_all(
-        b"exponent: ",
-        b"{\"term\":1e0,\"phase\":\"Prepare\",\"proposal_data\":[116,120,49],\"flags_bitmap\":[true,false]}",
-    );
-    ce_all(
-        b"no digits: ",
-        b"{\"term\":,\"phase\":\"Prepare\",\"proposal_data\":[116,120,49],\"flags_bitmap\":[true,false]}",
-    );
-    ce_all(
-        b"string for a number: ",
-        b"{\"term\":\"1\",\"phase\":\"Prepare\",\"proposal_data\":[116,120,49],\"flags_bitmap\":[true,false]}",
-    );
-    ce_all(
-        b"leading zero in data: ",
-        b"{\"term\":1,\"phase\":\"Prepare\",\"proposal_data\":[01],\"flags_bitmap\":[true,false]}",
-    );
-    ce_all(
-        b"negative byte: ",
-        b"{\"term\":1,\"phase\":\"Prepare\",\"proposal_data\":[-1],\"flags_bitmap\":[true,false]}",
-    );
-    ce_all(
-        b"hexadecimal: ",
-        b"{\"term\":0x1,\"phase\":\"Prepare\",\"proposal_data\":[116,120,49],\"flags_bitmap\":[true,false]}",
-    );
-}
-
-fn capture_shapes() {
-    ce_all(b"empty text: ", b"");
-    ce_all(
-        b"blank in front: ",
-        b" {\"term\":1,\"phase\":\"Prepare\",\"proposal_data\":[116,120,49],\"flags_bitmap\":[true,false]}",
-    );
-    ce_all(
-        b"blank behind: ",
-        b"{\"term\":1,\"phase\":\"Prepare\",\"proposal_data\":[116,120,49],\"flags_bitmap\":[true,false]} ",
-    );
-    ce_all(
-        b"line end behind: ",
-        b"{\"term\":1,\"phase\":\"Prepare\",\"proposal_data\":[116,120,49],\"flags_bitmap\":[true,false]}\n",
-    );
-    ce_all(
-        b"blank behind a colon: ",
-        b"{\"term\": 1,\"phase\":\"Prepare\",\"proposal_data\":[116,120,49],\"flags_bitmap\":[true,false]}",
-    );
-    ce_all(
-        b"blank in an array: ",
-        b"{\"term\":1,\"phase\":\"Prepare\",\"proposal_data\":[1, 2],\"flags_bitmap\":[true,false]}",
-    );
-    ce_all(
-        b"byte behind: ",
-        b"{\"term\":1,\"phase\":\"Prepare\",\"proposal_data\":[116,120,49],\"flags_bitmap\":[true,false]}0",
-    );
-    ce_all(
-        b"text twice: ",
-        b"{\"term\":1,\"phase\":\"Prepare\",\"proposal_data\":[116,120,49],\"flags_bitmap\":[true,false]}{\"term\":1,\"phase\":\"Prepare\",\"proposal_data\":[116,120,49],\"flags_bitmap\":[true,false]}",
-    );
-    ce_all(
-        b"no brace: ",
-        b"{\"term\":1,\"phase\":\"Prepare\",\"proposal_data\":[116,120,49],\"flags_bitmap\":[true,false]",
-    );
-    ce_all(b"only a brace: ", b"{");
-    ce_all(
-        b"null behind: ",
-        b"{\"term\":1,\"phase\":\"Prepare\",\"proposal_data\":[116,120,49],\"flags_bitmap\":[true,false]}\x00",
-    );
-    ce_all(
-        b"byte order mark: ",
-        b"\xef\xbb\xbf{\"term\":1,\"phase\":\"Prepare\",\"proposal_data\":[116,120,49],\"flags_bitmap\":[true,false]}",
-    );
-}
-
-fn capture_shapes_2() {
-    ce_all(
-        b"comma behind the last: ",
-        b"{\"term\":1,\"phase\":\"Prepare\",\"proposal_data\":[116,120,49],\"flags_bitmap\":[true,]}",
-    );
-    ce_all(
-        b"comma first: ",
-        b"{\"term\":1,\"phase\":\"Prepare\",\"proposal_data\":[116,120,49],\"flags_bitmap\":[,true]}",
-    );
-    ce_all(
-        b"comma alone: ",
-        b"{\"term\":1,\"phase\":\"Prepare\",\"proposal_data\":[116,120,49],\"flags_bitmap\":[,]}",
-    );
-    ce_all(
-        b"array not closed: ",
-        b"{\"term\":1,\"phase\":\"Prepare\",\"proposal_data\":[116,120,49],\"flags_bitmap\":[true}",
-    );
-    ce_all(
-        b"no comma: ",
-        b"{\"term\":1\"phase\":\"Prepare\",\"proposal_data\":[],\"flags_bitmap\":[]}",
-    );
-}
-
-fn capture_fields() {
-    ce_all(
-        b"reordered: ",
-        b"{\"phase\":\"Prepare\",\"term\":1,\"proposal_data\":[],\"flags_bitmap\":[]}",
-    );
-    ce_all(
-        b"field missing: ",
-        b"{\"term\":1,\"phase\":\"Prepare\",\"proposal_data\":[]}",
-    );
-    ce_all(
-        b"unknown field: ",
-        b"{\"term\":1,\"phase\":\"Prepare\",\"proposal_data\":[116,120,49],\"flags_bitmap\":[true,false],\"x\":0}",
-    );
-    ce_all(
-        b"field twice: ",
-        b"{\"term\":1,\"term\":1,\"phase\":\"Prepare\",\"proposal_data\":[],\"flags_bitmap\":[]}",
-    );
-    ce_all(
-        b"name in capitals: ",
-        b"{\"Term\":1,\"phase\":\"Prepare\",\"proposal_data\":[116,120,49],\"flags_bitmap\":[true,false]}",
-    );
-    ce_all(
-        b"escaped name: ",
-        b"{\"\\u0074erm\":1,\"phase\":\"Prepare\",\"proposal_data\":[116,120,49],\"flags_bitmap\":[true,false]}",
-    );
-    ce_all(
-        b"unknown phase: ",
-        b"{\"term\":1,\"phase\":\"Pending\",\"proposal_data\":[116,120,49],\"flags_bitmap\":[true,false]}",
-    );
-    ce_all(
-        b"phase in small letters: ",
-        b"{\"term\":1,\"phase\":\"prepare\",\"proposal_data\":[116,120,49],\"flags_bitmap\":[true,false]}",
-    );
-    ce_all(
-        b"escaped phase: ",
-        b"{\"term\":1,\"phase\":\"\\u0050repare\",\"proposal_data\":[116,120,49],\"flags_bitmap\":[true,false]}",
-    );
-    ce_all(
-        b"phase as object: ",
-        b"{\"term\":1,\"phase\":{\"Prepare\":null},\"proposal_data\":[116,120,49],\"flags_bitmap\":[true,false]}",
-    );
-    ce_all(
-        b"array for the object: ",
-        b"[1,\"Prepare\",[116,120,49],[true,false]]",
-    );
-    ce_all(
-        b"marks as numbers: ",
-        b"{\"term\":1,\"phase\":\"Prepare\",\"proposal_data\":[116,120,49],\"flags_bitmap\":[1,0]}",
-    );
-}
-
-fn capture_fields_2() {
-    ce_all(
-        b"mark in capitals: ",
-        b"{\"term\":1,\"phase\":\"Prepare\",\"proposal_data\":[116,120,49],\"flags_bitmap\":[True]}",
-    );
-    ce_all(
-        b"mark cut short: ",
-        b"{\"term\":1,\"phase\":\"Prepare\",\"proposal_data\":[116,120,49],\"flags_bitmap\":[tru]}",
-    );
-    ce_all(
-        b"null for data: ",
-        b"{\"term\":1,\"phase\":\"Prepare\",\"proposal_data\":null,\"flags_bitmap\":[true,false]}",
-    );
-}
-
-fn pipeline_texts() {
-    pipeline_all(
-        b"all absent: ",
-        b"{\"transaction_id\":0,\"state\":\"Prepare\",\"flags_bitmap\":[],\"abort_flag\":false,\"nack_tx_id\":0,\"transaction_data\":[],\"sender\":0,\"piggyback_tx\":null,\"piggyback_state\":\"Committed\"}",
-    );
-    pipeline_all(
-        b"both absent: ",
-        b"{\"transaction_id\":0,\"state\":\"Prepare\",\"flags_bitmap\":[],\"abort_flag\":false,\"nack_tx_id\":0,\"transaction_data\":[],\"sender\":0,\"piggyback_tx\":null,\"piggyback_state\":null}",
-    );
-    pipeline_all(
-        b"both present: ",
-        b"{\"transaction_id\":0,\"state\":\"Prepare\",\"flags_bitmap\":[],\"abort_flag\":false,\"nack_tx_id\":0,\"transaction_data\":[],\"sender\":0,\"piggyback_tx\":3,\"piggyback_state\":\"Aborted\"}",
-    );
-    pipeline_all(
-        b"piggyback of 0: ",
-        b"{\"transaction_id\":0,\"state\":\"Prepare\",\"flags_bitmap\":[],\"abort_flag\":false,\"nack_tx_id\":0,\"transaction_data\":[],\"sender\":0,\"piggyback_tx\":0,\"piggyback_state\":null}",
-    );
-    pipeline_all(
-        b"piggyback prepare: ",
-        b"{\"transaction_id\":0,\"state\":\"Prepare\",\"flags_bitmap\":[],\"abort_flag\":false,\"nack_tx_id\":0,\"transaction_data\":[],\"sender\":0,\"piggyback_tx\":null,\"piggyback_state\":\"Prepare\"}",
-    );
-    pipeline_all(
-        b"pipeline bitmap of 64: ",
-        b"{\"transaction_id\":0,\"state\":\"Prepare\",\"flags_bitmap\":[false,false,false,false,false,false,false,false,false,false,false,false,false,false,false,false,false,false,false,false,false,false,false,false,false,false,false,false,false,false,false,false,false,false,false,false,false,false,false,false,false,false,false,false,false,false,false,false,false,false,false,false,false,false,false,false,false,false,false,false,false,false,false,false],\"abort_flag\":false,\"nack_tx_id\":0,\"transaction_data\":[],\"sender\":0,\"piggyback_tx\":null,\"piggyback_state\":null}",
-    );
-    pipeline_all(
-        b"pipeline bitmap of 65: ",
-        b"{\"transaction_id\":0,\"state\":\"Prepare\",\"flags_bitmap\":[false,false,false,false,false,false,false,false,false,false,false,false,false,false,false,false,false,false,false,false,false,false,false,false,false,false,false,false,false,false,false,false,false,false,false,false,false,false,false,false,false,false,false,false,false,false,false,false,false,false,false,false,false,false,false,false,false,false,false,false,false,false,false,false,false],\"abort_flag\":false,\"nack_tx_id\":0,\"transaction_data\":[],\"sender\":0,\"piggyback_tx\":null,\"piggyback_state\":null}",
-    );
-    pipeline_all(
-        b"pipeline data of 32: ",
-        b"{\"transaction_id\":0,\"state\":\"Prepare\",\"flags_bitmap\":[],\"abort_flag\":false,\"nack_tx_id\":0,\"transaction_data\":[7,7,7,7,7,7,7,7,7,7,7,7,7,7,7,7,7,7,7,7,7,7,7,7,7,7,7,7,7,7,7,7],\"sender\":0,\"piggyback_tx\":null,\"piggyback_state\":null}",
-    );
-    pipeline_all(
-        b"pipeline data of 33: ",
-        b"{\"transaction_id\":0,\"state\":\"Prepare\",\"flags_bitmap\":[],\"abort_flag\":false,\"nack_tx_id\":0,\"transaction_data\":[7,7,7,7,7,7,7,7,7,7,7,7,7,7,7,7,7,7,7,7,7,7,7,7,7,7,7,7,7,7,7,7,7],\"sender\":0,\"piggyback_tx\":null,\"piggyback_state\":null}",
-    );
-    pipeline_all(
-        b"greatest numbers: ",
-        b"{\"transaction_id\":18446744073709551615,\"state\":\"Prepare\",\"flags_bitmap\":[],\"abort_flag\":true,\"nack_tx_id\":18446744073709551615,\"transaction_data\":[],\"sender\":18446744073709551615,\"piggyback_tx\":18446744073709551615,\"piggyback_state\":null}",
-    );
-    pipeline_all(
-        b"sender one more: ",
-        b"{\"transaction_id\":0,\"state\":\"Prepare\",\"flags_bitmap\":[],\"abort_flag\":false,\"nack_tx_id\":0,\"transaction_data\":[],\"sender\":18446744073709551616,\"piggyback_tx\":null,\"piggyback_state\":null}",
-    );
-    pipeline_all(
-        b"piggyback one more: ",
-        b"{\"transaction_id\":0,\"state\":\"Prepare\",\"flags_bitmap\":[],\"abort_flag\":false,\"nack_tx_id\":0,\"transaction_data\":[],\"sender\":0,\"piggyback_tx\":18446744073709551616,\"piggyback_state\":null}",
-    );
-}
-
-fn pipeline_texts_2() {
-    pipeline_all(
-        b"piggyback with a leading zero: ",
-        b"{\"transaction_id\":0,\"state\":\"Prepare\",\"flags_bitmap\":[],\"abort_flag\":false,\"nack_tx_id\":0,\"transaction_data\":[],\"sender\":0,\"piggyback_tx\":00,\"piggyback_state\":null}",
-    );
-    pipeline_all(
-        b"flag as a number: ",
-        b"{\"transaction_id\":0,\"state\":\"Prepare\",\"flags_bitmap\":[],\"abort_flag\":1,\"nack_tx_id\":0,\"transaction_data\":[],\"sender\":0,\"piggyback_tx\":null,\"piggyback_state\":null}",
-    );
-    pipeline_all(
-        b"null cut short: ",
-        b"{\"transaction_id\":0,\"state\":\"Prepare\",\"flags_bitmap\":[],\"abort_flag\":false,\"nack_tx_id\":0,\"transaction_data\":[],\"sender\":0,\"piggyback_tx\":nul,\"piggyback_state\":null}",
-    );
-    pipeline_all(
-        b"null for a number: ",
-        b"{\"transaction_id\":0,\"state\":\"Prepare\",\"flags_bitmap\":[],\"abort_flag\":false,\"nack_tx_id\":null,\"transaction_data\":[],\"sender\":0,\"piggyback_tx\":null,\"piggyback_state\":null}",
-    );
-    pipeline_all(
-        b"piggyback missing: ",
-        b"{\"transaction_id\":0,\"state\":\"Prepare\",\"flags_bitmap\":[],\"abort_flag\":false,\"nack_tx_id\":0,\"transaction_data\":[],\"sender\":0,\"piggyback_state\":null}",
-    );
-    pipeline_all(
-        b"capture text: ",
-        b"{\"term\":1,\"phase\":\"Prepare\",\"proposal_data\":[116,120,49],\"flags_bitmap\":[true,false]}",
-    );
-    pipeline_all(
-        b"longest: ",
-        b"{\"transaction_id\":18446744073709551615,\"state\":\"Committed\",\"flags_bitmap\":[false,false,false,false,false,false,false,false,false,false,false,false,false,false,false,false,false,false,false,false,false,false,false,false,false,false,false,false,false,false,false,false,false,false,false,false,false,false,false,false,false,false,false,false,false,false,false,false,false,false,false,false,false,false,false,false,false,false,false,false,false,false,false,false],\"abort_flag\":false,\"nack_tx_id\":18446744073709551615,\"transaction_data\":[255,255,255,255,255,255,255,255,255,255,255,255,255,255,255,255,255,255,255,255,255,255,255,255,255,255,255,255,255,255,255,255],\"sender\":18446744073709551615,\"piggyback_tx\":18446744073709551615,\"piggyback_state\":\"Committed\"}",
-    );
-}
-
-// A stated length: the bytes behind it are not read, and one over the buffer is 10, also for a bad text.
-fn stated_lengths() {
-    ce(
-        b"stated length: ",
-        b"{\"term\":1,\"phase\":\"Prepare\",\"proposal_data\":[116,120,49],\"flags_bitmap\":[true,false]}rest",
-        85,
-    );
-    ce(
-        b"stated length short: ",
-        b"{\"term\":1,\"phase\":\"Prepare\",\"proposal_data\":[116,120,49],\"flags_bitmap\":[true,false]}",
-        84,
-    );
-    ce(
-        b"stated length over the buffer: ",
-        b"{\"term\":1,\"phase\":\"Prepare\",\"proposal_data\":[116,120,49],\"flags_bitmap\":[true,false]}",
-        86,
-    );
-    ce(b"bad text and length over the buffer: ", b"x", 2);
-    ce(b"length 0 of nothing: ", b"", 0);
-    pipeline(b"greatest stated length: ", b"x", 18446744073709551615);
-}
-
-fn small() -> CeTwoPcPacket {
-    let mut bytes = [0u8; 32];
-    bytes[0] = 116;
-    bytes[1] = 120;
-    bytes[2] = 49;
-    let proposal_data = Data { len: 3, bytes };
-    let flags_bitmap = Bitmap { len: 2, marks: 1 };
-    CeTwoPcPacket {
-        term: 1,
-        phase: TwoPcPhase::Prepare,
-        proposal_data,
-        flags_bitmap,
+    match text[i] {
+        10 => {
+            answer(text, with_word(l, i, i + 1));
+            line_from(i + 1)
+        }
+        32 => with_word(l, i, i + 1),
+        _ => l,
     }
 }
 
-fn say_write(name: &[u8], buf: &mut [u8], at: usize, p: CeTwoPcPacket) {
-    say(name);
-    let w = two_pc_ce::write_ce_packet(buf, at, p);
-    if w.refusal != 0 {
-        say_part(buf, buf.len());
-        say_refusal(w.refusal);
-        return;
-    }
-    say_part(buf, buf.len());
-}
-
-// A buffer that the text fills, one that is a byte short, and places at and behind the end.
-fn room() {
-    let p = small();
-    let mut full = [46u8; 85];
-    say_write(b"buffer just full: ", &mut full, 0, p);
-    let mut short = [46u8; 84];
-    say_write(b"buffer one short: ", &mut short, 0, p);
-    let mut behind = [46u8; 90];
-    say_write(b"with room around: ", &mut behind, 2, p);
-    let mut late = [46u8; 90];
-    say_write(b"one place too late: ", &mut late, 6, p);
-    say_write(b"behind the end: ", &mut late, 91, p);
-    say_write(b"greatest place: ", &mut late, 18446744073709551615, p);
-}
-
-// Packets outside the limits have no text; marks and bytes behind the lengths are not written.
-fn outside() {
-    let mut p = small();
-    p.flags_bitmap.len = 65;
-    let mut buf = [46u8; 8];
-    say_write(b"bitmap of 65: ", &mut buf, 0, p);
-    p.flags_bitmap.len = 1;
-    p.flags_bitmap.marks = 6;
-    p.proposal_data.len = 33;
-    say_write(b"data of 33: ", &mut buf, 0, p);
-    p.proposal_data.len = 1;
-    say(b"what lies behind the lengths: ");
-    say_ce(p);
-}
-
-fn absent() -> TwoPcPacket {
-    let bytes = [0u8; 32];
-    let transaction_data = Data { len: 0, bytes };
-    let flags_bitmap = Bitmap { len: 0, marks: 0 };
-    TwoPcPacket {
-        transaction_id: 0,
-        state: TwoPcPhase::Prepare,
-        flags_bitmap,
-        abort_flag: false,
-        nack_tx_id: 0,
-        transaction_data,
-        sender: 0,
-        piggyback_tx: PiggybackTx::Absent,
-        piggyback_state: PiggybackState::Present(TwoPcPhase::Committed),
-    }
-}
-
+// All of the questions are here at once. If there were more, the last would have no answers.
 fn main() {
-    capture_limits();
-    capture_limits_2();
-    capture_numbers();
-    capture_shapes();
-    capture_shapes_2();
-    capture_fields();
-    capture_fields_2();
-    pipeline_texts();
-    pipeline_texts_2();
-    stated_lengths();
-    room();
-    outside();
-    say(b"pipeline packet: ");
-    let p = absent();
-    say_pipeline(p);
+    let mut text = [0u8; 262144];
+    let n = io::read_full(0, &mut text);
+    let mut l = line_from(0);
+    let mut i: usize = 0;
+    while i < n {
+        l = feed(l, &text, i);
+        i += 1;
+    }
 }
