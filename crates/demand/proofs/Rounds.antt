@@ -6,7 +6,7 @@ use Prim.Native.Nat.{ℕ, _+_, _≤_, suc}
 use native.Mathlib.Omega.{arith}
 use lib.Dec.{eqb, ltb}
 use lib.ListN.{length}
-use borrow.Author.Tests.{ltb-false}
+use borrow.Author.Tests.{ltb-false, eqb-true}
 use Rattle.loops.specs.Pick.{either}
 use Rattle.graph.specs.Links.{rowsOf}
 use Rattle.engines.specs.Settings.{lossAccepted}
@@ -100,11 +100,11 @@ calls-within t (c ∷ cs) k r w =
 
 -- no refusal of a chain of tests: none was met
 passed : (b : Bool) (m rest : ℕ) → eqb (either b (suc m) rest) 0 ≡ true → eqb rest 0 ≡ true
-passed true m rest h = absurd (let z : _≡_ {A = ℕ} 0 1 = cc in omega arith)
+passed true m rest h = absurd (let e = eqb-true (suc m) 0 h in omega arith)
 passed false m rest h = h
 
 last : (b : Bool) (m : ℕ) → eqb (either b (suc m) 0) 0 ≡ true → b ≡ false
-last true m h = absurd (let z : _≡_ {A = ℕ} 0 1 = cc in omega arith)
+last true m h = absurd (let e = eqb-true (suc m) 0 h in omega arith)
 last false m h = refl
 
 links-passed : (links rest : ℕ) → eqb (either (not (eqb links 0)) links rest) 0 ≡ true → eqb rest 0 ≡ true
