@@ -14,7 +14,7 @@ use packets::TwoPcPacket;
 use packets::TwoPcPhase;
 
 // The letters t and x, and the number.
-fn data(fresh: bool, t: usize) -> Data
+pub fn data(fresh: bool, t: usize) -> Data
     ensures { λ r. ⌜ r ≡ dataOf fresh t ⌝ }
 {
     let mut bytes = [0u8; 32];

@@ -1,25 +1,17 @@
--- A room as numbers: arrays that are filled whole, and stores that keep a list's length.
+-- A room as numbers: stores that keep a list's length.
 use mathlib.Core.Path.{_≡_, ap, _∙_}
-use mathlib.Core.List.{List, [], _∷_, _++_, append-nil}
+use mathlib.Core.List.{List, [], _∷_, _++_}
 use Prim.Native.Nat.{ℕ, _+_, _-_, _*_}
 use native.Mathlib.Omega.{arith}
 use lib.ListN.{length, getD, set, replicate, length-set}
 use lib.Seq.{sets, length-sets}
-use Rattle.loops.specs.Table.{tabulate, filled}
+use Rattle.loops.specs.Table.{tabulate}
 use Rattle.pipeline.specs.Pipeline.{noState}
 use Rattle.pipeline.specs.Round.{noPacket}
 use Rattle.pipeline_c.specs.Console.{logNumbers, putLog, putState, stateTo, packetNumbers, packetTo}
 use Rattle.pipeline.specs.declared.two_pc_pipeline.TxLog.{TxLog}
 use Rattle.pipeline.specs.declared.two_pc_pipeline.NodeTwoPcState.{NodeTwoPcState}
 use Rattle.pipeline.specs.declared.two_pc_pipeline.RoundPacket.{RoundPacket}
-
--- nothing is left of what an array was made of
-pub filled-whole : {A : Type 0} (d : A) (k : ℕ) (f : ℕ → A) → filled d k k f ≡ tabulate k f
-unfolding filled
-filled-whole d k f = rw (none k, append-nil)
-  where
-    none : (k : ℕ) → k - k ≡ 0
-    none k = omega arith
 
 pub packet-to-length : (qs : List RoundPacket) (i : ℕ) (xs : List ℕ) → length (packetTo qs i xs) ≡ length xs
 unfolding packetTo

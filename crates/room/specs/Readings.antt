@@ -22,7 +22,7 @@ use Rattle.merges.specs.declared.merging.ProposalOutcome.the-variants as outcom
 use Rattle.engines.specs.Nodes.{noNode}
 use Rattle.engines.specs.declared.node.Node.{Node}
 use Rattle.pipeline.specs.Pending.{noEntry}
-use Rattle.pipeline.specs.Pipeline.{noState, packetOf}
+use Rattle.pipeline.specs.Pipeline.{noState, packetOf, dataOf}
 use Rattle.pipeline.specs.Round.{noPacket}
 use Rattle.pipeline.specs.declared.two_pc_pipeline.LogEntry.{LogEntry}
 use Rattle.pipeline.specs.declared.two_pc_pipeline.RoundPacket.{RoundPacket}
@@ -111,20 +111,23 @@ logEntryOf r v k =
     let j = ofPipeline r v in
     either (eqb j 0) (entryOf (stateAt r v .log) k) (record { refusal = j; there = false; tx = 0; committed = false })
 
-unfoldable pub pendingIn : NodeTwoPcState → ℕ → PendingReading
-pendingIn s t =
+-- The round of a transaction's start is the same for all who know of it, and so is its data.
+unfoldable pub pendingIn : Rounds → NodeTwoPcState → ℕ → PendingReading
+pendingIn x s t =
     record {
       refusal = 0;
       pending = has (s .pending) t;
       abort = has (s .aborts) t;
       votes = getD (s .votes) t 0;
+      start = getD (x .txs .rounds) t 0;
+      «data» = dataOf (has (s .pending) t) t;
     }
 
 -- a transaction is one of 64; of any other nothing is known
 unfoldable pub pendingOf : Room → ℕ → ℕ → PendingReading
 pendingOf r v t =
     let j = ofPipeline r v in
-    either (eqb j 0) (pendingIn (stateAt r v) t) (record { refusal = j; pending = false; abort = false; votes = 0 })
+    either (eqb j 0) (pendingIn (r .rounds) (stateAt r v) t) (record { refusal = j; pending = false; abort = false; votes = 0; start = 0; «data» = dataOf false t })
 
 -- the record at place k, in the order in which they were recorded, with the slots at which its transaction was generated and recorded
 unfoldable pub recordIn : Rounds → ℕ → RecordReading

@@ -4,7 +4,6 @@ use mathlib.Core.Bool.{Bool, true, false}
 use mathlib.Core.List.{List, [], _∷_, map}
 use lib.ListN.{set}
 use Rattle.engines.specs.Capture.{over, slotOf, startOf}
-use Rattle.engines.specs.declared.capture.CeState.{CeState}
 use Rattle.pipeline.specs.Flood.{isOver, floodSlot}
 use Rattle.pipeline.specs.Round.{initiatorOf, preparing, floodConf, floodFrom, startDraw}
 use Rattle.pipeline.specs.declared.flood.FloodRun.{FloodRun}

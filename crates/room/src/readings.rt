@@ -22,6 +22,7 @@ use merges::merging;
 use merges::merging::Held;
 use merges::merging::Payload;
 use merges::merging::ProposalOutcome;
+use packets::Data;
 use packets::Wrote;
 use packets::two_pc_ce;
 use packets::two_pc_pipeline;
@@ -58,12 +59,15 @@ pub struct EntryReading {
     pub committed: bool,
 }
 
-// What a position knows of a transaction: whether it is pending, whether an abort is known of it, and who has said yes.
+// What a position knows of a transaction: whether it is pending, whether an abort is known of it, who has said yes, the round of its start, and its data if it is
+// pending.
 pub struct PendingReading {
     pub refusal: u64,
     pub pending: bool,
     pub abort: bool,
     pub votes: u64,
+    pub start: u64,
+    pub data: Data,
 }
 
 // The record at a place: the transaction, its outcome, and the slots at which it was generated and recorded.
@@ -398,13 +402,30 @@ pub fn log_entry(r: Room, v: usize, k: usize) -> EntryReading
     entry(log, k)
 }
 
-fn vote_of(votes: [u64; 64], t: usize) -> u64
-    ensures { λ r. ⌜ r ≡ getD votes t 0 ⌝ }
+fn word_at(words: [u64; 64], t: usize) -> u64
+    ensures { λ r. ⌜ r ≡ getD words t 0 ⌝ }
 {
     if t < 64 {
-        return votes[t];
+        return words[t];
     }
     0
+}
+
+fn pending_in(x: Rounds, s: NodeTwoPcState, t: usize) -> PendingReading
+    ensures { λ q. ⌜ q ≡ pendingIn x s t ⌝ }
+{
+    let txs = x.txs;
+    let rounds = txs.rounds;
+    let votes = s.votes;
+    let pending = sets::is_marked(s.pending, t);
+    PendingReading {
+        refusal: 0,
+        pending,
+        abort: sets::is_marked(s.aborts, t),
+        votes: word_at(votes, t),
+        start: word_at(rounds, t),
+        data: packet::data(pending, t),
+    }
 }
 
 // What position v knows of transaction t.
@@ -418,16 +439,12 @@ pub fn pending(r: Room, v: usize, t: usize) -> PendingReading
             pending: false,
             abort: false,
             votes: 0,
+            start: 0,
+            data: packet::data(false, t),
         };
     }
     let s = state_at(r, v);
-    let votes = s.votes;
-    PendingReading {
-        refusal: 0,
-        pending: sets::is_marked(s.pending, t),
-        abort: sets::is_marked(s.aborts, t),
-        votes: vote_of(votes, t),
-    }
+    pending_in(r.rounds, s, t)
 }
 
 fn record_in(x: Rounds, k: usize) -> RecordReading
@@ -444,8 +461,8 @@ fn record_in(x: Rounds, k: usize) -> RecordReading
         there: e.there,
         tx: e.tx,
         committed: e.committed,
-        start: vote_of(starts, e.tx as usize),
-        end: vote_of(ends, e.tx as usize),
+        start: word_at(starts, e.tx as usize),
+        end: word_at(ends, e.tx as usize),
     }
 }
 

@@ -1,4 +1,4 @@
-use Rattle.pipeline_c.proofs.Numbering.{filled-whole}
+use Rattle.engines_c.proofs.Storing.{filled-whole}
 use Rattle.loops.specs.Table.{filled, filled-none, filled-turn, filled-all}
 use Prim.Native.Nat.{ℕ, _+_, _*_, _≤_, _-_}
 use native.Mathlib.Omega.{arith}

@@ -5,7 +5,7 @@ use Rattle.room.proofs.readings.record_in.Tie as tie
 
 returns : tie.Need-returns
 unfolding recordIn
-returns c = rw (c .vote-of2 .ensures, c .before .vote-of .ensures, c .before .before .entry .ensures)
+returns c = rw (c .word-at2 .ensures, c .before .word-at .ensures, c .before .before .entry .ensures)
 
 pub record-in-spec : {M : Type 1} → statement M
 record-in-spec = tie.close (tie.spec
