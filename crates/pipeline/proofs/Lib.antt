@@ -5,6 +5,7 @@ pub mod Taking
 pub mod Recorded
 pub mod Sums
 pub mod Growth
+pub mod Shortage
 pub mod Rounding
 pub mod Logs
 pub mod Totals

@@ -1,6 +1,6 @@
 -- A pipeline round step by step, and its refusals. Assumes nothing.
 use Prim.Native.Nat.{ℕ, _+_, _-_, _*_, _/_, _≤_, _<_, _%_, _^_}
-use mathlib.Core.Bool.{Bool, true, false, _||_}
+use mathlib.Core.Bool.{Bool, true, false, _||_, true≢false}
 use mathlib.Core.List.{List}
 use mathlib.Core.Path.{_≡_, refl, sym, ap, _∙_}
 use lib.Dec.{eqb, ltb, leb}
@@ -11,10 +11,10 @@ use borrow.Author.Tests.{eq-eqb, ne-eqb, eqb-true, eqb-false, ltb-true, ltb-fals
 use Rattle.loops.specs.Pick.{either}
 use Rattle.engines.specs.Nodes.{inc, setsOf}
 use Rattle.engines.specs.Rows.{rowsRefused}
-use Rattle.pipeline.specs.Flood.{writtenRound}
+use Rattle.pipeline.specs.Flood.{floodRound, FloodSurveyed, writtenRound}
 use Rattle.pipeline.specs.Pending.{joinMarks}
 use Rattle.pipeline.specs.Pipeline.{partsOf, Processing, processAll, shortestLog, progressAll, stopsAt}
-use Rattle.pipeline.specs.Round.{deliverAll, coveredOf, factsOf, initiatorOf, preparing, floodConf, floodFrom, countedIn, closeRound, floodOf, runRound, rowsOfRound, earlyOf, lateOf, startDraw, lateAnswer, roundAnswer, lateBuffer, roundBuffer, refusedWith, acceptedWith}
+use Rattle.pipeline.specs.Round.{deliverAll, coveredOf, factsOf, initiatorOf, preparing, floodConf, floodFrom, countedIn, closeRound, floodOf, runRound, RoundSurveyed, rowsOfRound, earlyOf, lateOf, startDraw, lateAnswer, roundAnswer, lateBuffer, roundBuffer, refusedWith, acceptedWith}
 use Rattle.engines.specs.declared.words.Draw.{Draw}
 use Rattle.engines.specs.declared.node.Node.{Node}
 use Rattle.engines.specs.declared.node.StateSets.{StateSets}
@@ -30,11 +30,23 @@ use Rattle.pipeline.specs.declared.pipeline.PipelineConf.{PipelineConf}
 use Rattle.pipeline.specs.declared.pipeline.Pipeline.{Pipeline}
 use Rattle.pipeline.specs.declared.pipeline.RoundRun.{RoundRun}
 use Rattle.pipeline.specs.declared.pipeline.RoundAnswer.{RoundAnswer}
+use Rattle.pipeline.proofs.Shortage.{close-short}
 
 module _ (ws : List ℕ) (conf : PipelineConf) (p : Pipeline) (d : Draw) (i : ℕ) (a : i ≡ initiatorOf conf p) (prep : Prepared) (b : prep ≡ preparing ws conf p i d) where
-  pub run-is : {f : FloodRun} {r : RoundRun} → f ≡ floodOf ws conf p i prep → r ≡ closeRound ws conf p i prep f → r ≡ runRound ws conf p d
-  unfolding runRound
-  run-is c e = rw (c, b, a) at e
+  module _ {f : FloodRun} (v : FloodSurveyed ws (conf .links) (floodConf conf (prep .packet)) (conf .length) (floodFrom conf p i (prep .draw)) f) where
+    run-is : {r : RoundRun} → f .draw .short ≡ false → r ≡ closeRound ws conf p i prep f → r ≡ runRound ws conf p d
+    unfolding runRound floodOf
+    run-is q e = rw (v .run q, b, a) at e
+
+    pub run-whole : {r : RoundRun} → f .draw .short ≡ false → r ≡ closeRound ws conf p i prep f → RoundSurveyed ws conf p d r
+    run-whole q e = let g = run-is q e in record { short = ap (λ (x : RoundRun). x .draw .short) g; run = λ z. g }
+
+    lacking : f .draw .short ≡ true → runRound ws conf p d .draw .short ≡ true
+    unfolding runRound floodOf
+    lacking q = rw (← a, ← b) (close-short ws conf p i prep (floodRound ws (conf .links) (floodConf conf (prep .packet)) (conf .length) (floodFrom conf p i (prep .draw))) (sym (v .short) ∙ q))
+
+    pub run-short : (n : ℕ) → f .draw .short ≡ true → RoundSurveyed ws conf p d (record { pipe = p; draw = f .draw; due = n })
+    run-short n q = record { short = q ∙ sym (lacking q); run = λ z. absurd (true≢false (sym q ∙ z)) }
 
   pub rows-is : {fc : FloodConf} {start : FloodRun} {final : List ℕ} (rows : List ℕ) (used : ℕ) → fc ≡ floodConf conf (prep .packet) → start ≡ floodFrom conf p i (prep .draw)
       → final ≡ writtenRound ws (conf .links) fc (conf .length) (record { rows = rows; used = used; run = start }) .rows → final ≡ rowsOfRound ws conf p d rows used
@@ -103,16 +115,35 @@ module _ (ws : List ℕ) (rows : List ℕ) (used : ℕ) (conf : PipelineConf) (p
   unfolding roundAnswer roundBuffer
   refused-early ne e = (rw (← a, ne-eqb early 0 ne) e, rw (← a, ne-eqb early 0 ne))
 
-  module _ (z : early ≡ 0) {x : RoundRun} (b : x ≡ runRound ws conf p (startDraw cursor)) (late : ℕ) (c : late ≡ lateOf (length rows) used (x .draw .short) (x .due)) where
+  module _ (z : early ≡ 0) {x : RoundRun} (w : RoundSurveyed ws conf p (startDraw cursor) x) (late : ℕ) (c : late ≡ lateOf (length rows) used (x .draw .short) (x .due)) where
+    -- what is refused by the run that was made is refused by the whole one, and the other way round
+    whole : late ≡ lateOf (length rows) used (runRound ws conf p (startDraw cursor) .draw .short) (runRound ws conf p (startDraw cursor) .due)
+    unfolding lateOf
+    whole = by (x .draw .short) refl
+      where
+        by : (s : Bool) → x .draw .short ≡ s → late ≡ lateOf (length rows) used (runRound ws conf p (startDraw cursor) .draw .short) (runRound ws conf p (startDraw cursor) .due)
+        by true q = rw (← w .short, q) (rw q at c)
+        by false q = c ∙ ap (λ (y : RoundRun). lateOf (length rows) used (y .draw .short) (y .due)) (w .run q)
+
+    -- nothing is refused, so no word was missing
+    enough : late ≡ 0 → x .draw .short ≡ false
+    unfolding lateOf
+    enough k = by (x .draw .short) refl
+      where
+        by : (s : Bool) → x .draw .short ≡ s → s ≡ false
+        by true q = absurd (let e : late ≡ 16 = rw q at c in omega (arith, e, k))
+        by false q = refl
+
     pub refused-late : {r : RoundAnswer} → (late ≡ 0 → ⊥) → r ≡ refusedWith late p cursor used → (r ≡ roundAnswer ws (length rows) used conf p cursor) × (rows ≡ roundBuffer ws rows used conf p cursor)
     unfolding roundAnswer roundBuffer lateAnswer lateBuffer
     refused-late ne e =
-        (rw (← a, eq-eqb early 0 z, ← b, ← c, ne-eqb late 0 ne) e, rw (← a, eq-eqb early 0 z, ← b, ← c, ne-eqb late 0 ne))
+        (rw (← a, eq-eqb early 0 z, ← whole, ne-eqb late 0 ne) e, rw (← a, eq-eqb early 0 z, ← whole, ne-eqb late 0 ne))
 
     pub accepted : {final : List ℕ} → late ≡ 0 → final ≡ either (eqb (x .due) 0) rows (rowsOfRound ws conf p (startDraw cursor) rows used)
         → (acceptedWith used x ≡ roundAnswer ws (length rows) used conf p cursor) × (final ≡ roundBuffer ws rows used conf p cursor)
     unfolding roundAnswer roundBuffer lateAnswer lateBuffer
     accepted k e =
+        let b = w .run (enough k) in
         (rw (← a, eq-eqb early 0 z, ← b, ← c, eq-eqb late 0 k), rw (← a, eq-eqb early 0 z, ← b, ← c, eq-eqb late 0 k) e)
 
 -- an accepted round's rows fit behind those used

@@ -2,6 +2,7 @@
 -- that j hears i: row i of the links has mark j. Assumes nothing.
 use Prim.Native.Nat.{ℕ, _+_, _-_, _*_, _%_, _^_, max}
 use mathlib.Core.Bool.{Bool, true, false, _&&_}
+use mathlib.Core.Path.{_≡_}
 use mathlib.Core.List.{List}
 use lib.Dec.{eqb, leb, ltb}
 use lib.ListN.{getD, set}
@@ -161,6 +162,11 @@ floodStart n initiator repeats l = either (ltb initiator 64) (startedBy initiato
 -- The slots of a round: as many as it may last, or until it is over.
 unfoldable pub floodRound : List ℕ → List ℕ → FloodConf → ℕ → FloodRun → FloodRun
 floodRound ws links conf k f = runs isOver (floodSlot ws links conf) k f
+
+-- what a run of a flood must find out: whether words run short and, if they do not, how it ends
+pub record FloodSurveyed (ws links : List ℕ) (conf : FloodConf) (k : ℕ) (f r : FloodRun) : Type 0 where
+  pub short : r .draw .short ≡ floodRound ws links conf k f .draw .short
+  pub run : r .draw .short ≡ false → r ≡ floodRound ws links conf k f
 
 -- ---- the rows of a round
 

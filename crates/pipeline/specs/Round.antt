@@ -1,6 +1,7 @@
 -- Document 01, "Identical flood and pipeline round", and refusals 14 to 17: one pipeline round. Assumes nothing.
 use Prim.Native.Nat.{ℕ, _+_, _%_, _^_}
 use mathlib.Core.Bool.{Bool, true, false, _||_, _&&_}
+use mathlib.Core.Path.{_≡_}
 use mathlib.Core.List.{List, []}
 use lib.Dec.{eqb, ltb, leb}
 use lib.ListN.{length, getD, set, replicate}
@@ -193,6 +194,11 @@ runFrom ws conf p i prep = closeRound ws conf p i prep (floodOf ws conf p i prep
 
 unfoldable pub runRound : List ℕ → PipelineConf → Pipeline → Draw → RoundRun
 runRound ws conf p d = runFrom ws conf p (initiatorOf conf p) (preparing ws conf p (initiatorOf conf p) d)
+
+-- what a run of a round must find out: the same
+pub record RoundSurveyed (ws : List ℕ) (conf : PipelineConf) (p : Pipeline) (d : Draw) (r : RoundRun) : Type 0 where
+  pub short : r .draw .short ≡ runRound ws conf p d .draw .short
+  pub run : r .draw .short ≡ false → r ≡ runRound ws conf p d
 
 -- The buffer with the rows of that run behind those used.
 abbrev pub rowsFrom : List ℕ → PipelineConf → Pipeline → ℕ → Prepared → List ℕ → ℕ → List ℕ

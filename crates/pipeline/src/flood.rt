@@ -2,7 +2,7 @@
 ghost use mathlib.Core.Path.{_≡_};
 ghost use Prim.Native.Nat.{_<_};
 ghost use Rattle.engines.specs.Marked.{overMarks};
-ghost use Rattle.pipeline.specs.Flood.{floodLength, framed, hearAt, hearersOf, sendAt, floodPlan, inState, afterFlood, afterListen, nextNode, turnedAll, dueAfter, nobodyFloods, sentAfter, floodSlot, resetAll, floodStart, floodRound, rowAt, writtenRound, Writing};
+ghost use Rattle.pipeline.specs.Flood.{floodLength, framed, hearAt, hearersOf, sendAt, floodPlan, inState, afterFlood, afterListen, nextNode, turnedAll, dueAfter, nobodyFloods, sentAfter, floodSlot, resetAll, floodStart, FloodSurveyed, rowAt, writtenRound, Writing};
 use engines::limits;
 use engines::node;
 use engines::node::Node;
@@ -260,20 +260,30 @@ fn flood_slot(words: &[u64], links: &[u64; 64], conf: FloodConf, f: FloodRun) ->
     }
 }
 
-// The slots of a round, without its rows.
-pub fn flood_slots(
+pub(crate) fn ran_short(f: FloodRun) -> bool
+    ensures { λ r. ⌜ r ≡ f .draw .short ⌝ }
+{
+    let d = f.draw;
+    d.short
+}
+
+// The slots of a round, without its rows. Once words have run short the rest is not run: there may be four billion slots, and a lack stays noted.
+pub(crate) fn flood_slots(
     words: &[u64],
     links: &[u64; 64],
     conf: FloodConf,
     slots: u64,
     f: FloodRun,
 ) -> FloodRun
-    ensures { λ r. ⌜ r ≡ floodRound (now (words .entry)) (now (links .entry)) conf slots f ⌝ }
+    ensures { λ r. ⌜ FloodSurveyed (now (words .entry)) (now (links .entry)) conf slots f r ⌝ }
 {
     let mut g = f;
     let mut left = slots;
     while 0 < left {
         if g.over {
+            return g;
+        }
+        if ran_short(g) {
             return g;
         }
         g = flood_slot(words, links, conf, g);

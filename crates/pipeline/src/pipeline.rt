@@ -8,7 +8,8 @@ ghost use mir.Val.{boolByte};
 ghost use Rattle.loops.specs.Pick.{either};
 ghost use Rattle.engines.specs.Nodes.{inc};
 ghost use Rattle.pipeline.specs.Pipeline.{samePacket};
-ghost use Rattle.pipeline.specs.Round.{newPipeline, deliverAll, coveredOf, preparing, floodConf, floodFrom, countedIn, closeRound, floodOf, runRound, rowsOfRound, earlyOf, lateOf, roundAnswer, roundBuffer, refusedWith};
+ghost use Rattle.pipeline.specs.Round.{newPipeline, deliverAll, coveredOf, preparing, floodConf, floodFrom, countedIn, closeRound, RoundSurveyed, rowsOfRound, earlyOf, lateOf, roundAnswer, roundBuffer, refusedWith};
+ghost use Rattle.pipeline.specs.Flood.{FloodSurveyed};
 use super::flood;
 use super::flood::FloodConf;
 use super::flood::FloodRun;
@@ -284,7 +285,7 @@ fn prepare_at(words: &[u64], conf: PipelineConf, p: Pipeline, i: usize, d: Draw)
     )
 }
 
-// The flood of the packet, without its rows.
+// The flood of the packet, without its rows, up to the first word that is missing.
 fn flood_identical_round(
     words: &[u64],
     conf: PipelineConf,
@@ -292,7 +293,7 @@ fn flood_identical_round(
     i: usize,
     prep: Prepared,
 ) -> FloodRun
-    ensures { λ r. ⌜ r ≡ floodOf (now (words .entry)) conf p i prep ⌝ }
+    ensures { λ r. ⌜ FloodSurveyed (now (words .entry)) (conf .links) (floodConf conf (prep .packet)) (conf .length) (floodFrom conf p i (prep .draw)) r ⌝ }
 {
     let q = prep.packet;
     let d = prep.draw;
@@ -383,14 +384,22 @@ fn close_round(
     }
 }
 
-// The round as it ends, without its rows.
+// The round as it ends, without its rows. One that lacks words is refused, so it is not closed.
 fn run_round(words: &[u64], conf: PipelineConf, p: Pipeline, d: Draw) -> RoundRun
     requires { ⌜ (0 < conf .n) × (conf .n ≤ 64) ⌝ }
-    ensures { λ r. ⌜ r ≡ runRound (now (words .entry)) conf p d ⌝ }
+    ensures { λ r. ⌜ RoundSurveyed (now (words .entry)) conf p d r ⌝ }
 {
     let i = initiator(p.round, conf.n);
     let prep = prepare_at(words, conf, p, i, d);
     let f = flood_identical_round(words, conf, p, i, prep);
+    if flood::ran_short(f) {
+        let e = f.draw;
+        return RoundRun {
+            pipe: p,
+            draw: e,
+            due: f.due,
+        };
+    }
     close_round(words, conf, p, i, prep, f)
 }
 

@@ -1,6 +1,9 @@
 use mathlib.Core.Path.{_≡_, refl, sym, ap, _∙_}
+use mathlib.Core.Bool.{true≢false}
 use Rattle.loops.specs.Runs.{runs, runs-none, runs-stop, runs-turn}
 use Rattle.pipeline.specs.Flood.{isOver, floodSlot, floodRound}
+use Rattle.pipeline.specs.declared.flood.FloodRun.{FloodRun}
+use Rattle.pipeline.proofs.Shortage.{flood-short}
 use borrow.Author.Needs.{needs}
 use Rattle.pipeline.proofs.flood.flood_slots.Statement.{statement}
 use Rattle.pipeline.proofs.flood.flood_slots.Tie as tie
@@ -13,11 +16,23 @@ abbrev μ-loop : tie.MeasureT-loop
 
 returns : tie.Need-returns Inv-loop μ-loop
 unfolding floodRound
-returns c = runs-stop _ _ (c .before .loop-test .taken) (c .if1 .taken) (c .before .before .loop .inv)
+returns c =
+    let e = runs-stop _ _ (c .before .loop-test .taken) (c .if1 .taken) (c .before .before .loop .inv) in
+    record { short = ap (λ (f : FloodRun). f .draw .short) e; run = λ q. e }
 
 returns-2 : tie.Need-returns-2 Inv-loop μ-loop
 unfolding floodRound
-returns-2 c = runs-none _ _ (c .loop-test .left) (c .before .loop .inv)
+returns-2 c =
+    let l = c .before .before .before .before in
+    let s = sym (c .before .ran-short .ensures) ∙ c .if2 .taken in
+    let e = sym (ap (λ (f : FloodRun). f .draw .short) (l .loop .inv)) ∙ flood-short _ _ _ (l .loop .left) (l .loop .g) s in
+    record { short = s ∙ sym e; run = λ q. absurd (true≢false (sym s ∙ q)) }
+
+returns-3 : tie.Need-returns-3 Inv-loop μ-loop
+unfolding floodRound
+returns-3 c =
+    let e = runs-none _ _ (c .loop-test .left) (c .before .loop .inv) in
+    record { short = ap (λ (f : FloodRun). f .draw .short) e; run = λ q. e }
 
 pub flood-slots-spec : {M : Type 1} → statement M
 flood-slots-spec =
@@ -28,7 +43,9 @@ flood-slots-spec =
     (λ c. refl)
     returns
     (λ c κs. search needs)
+    returns-2
+    (λ c κs. search needs)
     (λ c. search needs)
     (λ c. search needs)
-    (λ c. runs-turn _ _ (c .before .before .loop-test .taken) (c .before .if1 .left) (c .flood-slot .ensures) (c .before .before .before .loop .inv))
-    returns-2)
+    (λ c. runs-turn _ _ (c .before .before .before .before .loop-test .taken) (c .before .before .before .if1 .left) (c .flood-slot .ensures) (c .before .before .before .before .before .loop .inv))
+    returns-3)

@@ -1,5 +1,6 @@
+use mathlib.Core.Path.{sym, _∙_}
 use native.Mathlib.Omega.{arith}
-use Rattle.pipeline.proofs.Rounding.{run-is}
+use Rattle.pipeline.proofs.Rounding.{run-whole, run-short}
 use Rattle.pipeline.specs.Round.{initiatorOf}
 use borrow.Author.Needs.{needs}
 use Rattle.pipeline.proofs.pipeline.run_round.Statement.{statement}
@@ -7,7 +8,15 @@ use Rattle.pipeline.proofs.pipeline.run_round.Tie as tie
 
 returns : tie.Need-returns
 unfolding initiatorOf
-returns c = run-is _ _ _ _ _ (c .before .before .before .initiator .ensures .0) _ (c .before .before .prepare-at .ensures) (c .before .flood-identical-round .ensures) (c .close-round .ensures)
+returns c =
+    let f = c .before .before .before in
+    run-short _ _ _ _ _ (f .before .before .initiator .ensures .0) _ (f .before .prepare-at .ensures) (f .flood-identical-round .ensures) _ (sym (c .before .before .ran-short .ensures) ∙ c .before .if1 .taken)
+
+returns-2 : tie.Need-returns-2
+unfolding initiatorOf
+returns-2 c =
+    let f = c .before .before .before in
+    run-whole _ _ _ _ _ (f .before .before .initiator .ensures .0) _ (f .before .prepare-at .ensures) (f .flood-identical-round .ensures) (sym (c .before .before .ran-short .ensures) ∙ c .before .if1 .left) (c .close-round .ensures)
 
 pub run-round-spec : {M : Type 1} → statement M
 run-round-spec =
@@ -16,5 +25,7 @@ run-round-spec =
     (λ c κs. search needs)
     (λ c κs. omega (arith, c .initiator .ensures .1, c .before .before .pre .1))
     (λ c κs. search needs)
-    (λ c κs. omega (arith, c .before .before .initiator .ensures .1, c .before .before .before .before .pre .1))
-    returns)
+    (λ c κs. search needs)
+    returns
+    (λ c κs. omega (arith, c .before .before .before .before .initiator .ensures .1, c .before .before .before .before .before .before .pre .1))
+    returns-2)
