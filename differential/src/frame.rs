@@ -653,7 +653,7 @@ fn items(seed: u64, scale: u64) -> Vec<Item> {
     let all = drawn.len();
     let kept: Vec<Item> = drawn.into_iter().filter_map(|(k, l)| Item::of(&k, l)).collect();
     println!(
-        "frame: {} lines, {} more were left out since the Rust, or the program short of words, would run too long",
+        "frame: {} lines, {} more were left out since the Rust would run too long",
         kept.len(),
         all - kept.len()
     );
