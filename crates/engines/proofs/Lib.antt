@@ -13,3 +13,5 @@ pub mod Telling
 pub mod Recording
 pub mod RowCounts
 pub mod Settling
+pub mod Stretches
+pub mod Idling

@@ -7,7 +7,7 @@ use lib.Dec.{eqb, ltb}
 use native.Mathlib.Omega.{arith}
 use borrow.Author.Tests.{eq-eqb, eqb-true, eqb-false, ltb-false}
 use Rattle.loops.specs.Pick.{either}
-use Rattle.loops.specs.Upto.{upto}
+use Rattle.loops.specs.Upto.{upto, upto-holds}
 use Rattle.marks.specs.Marks.{has, countOf, Lowest}
 use Rattle.marks.specs.Laws.{has-none, has-out}
 use Rattle.marks.specs.Sets.{and-true, lowest-lt, count-grows, marks-is}
@@ -79,6 +79,15 @@ module _ {S : Type 0} (f : ℕ → S → S) where
   pub over-none : {m : ℕ} {t v : S} → m ≡ 0 → overMarks m f t ≡ v → t ≡ v
   unfolding overMarks
   over-none {m} {t} e g = sym (idle m 64 t (λ j l. ap (λ (x : ℕ). has x j) e ∙ has-none j)) ∙ g
+
+  -- turns that change nothing
+  pub over-fixed : (m : ℕ) (t : S) → ((i : ℕ) → i < 64 → has m i ≡ true → f i t ≡ t) → overMarks m f t ≡ t
+  unfolding overMarks
+  over-fixed m t same = upto-holds (λ (u : S). u ≡ t) (turn m) 64 (λ i u l e. by i (has m i) refl u l e) t refl
+    where
+      by : (i : ℕ) (b : Bool) → has m i ≡ b → (u : S) → i < 64 → u ≡ t → either b (f i u) u ≡ t
+      by i true h u l e = ap (f i) e ∙ same i l h
+      by i false h u l e = e
 
 -- sets by their marks
 pub with-is : (m i r : ℕ) → m < 2 ^ 64 → r < 2 ^ 64 → ((j : ℕ) → has r j ≡ (has m j || (ltb j 64 && eqb j i))) → r ≡ withMark m i

@@ -12,7 +12,7 @@ use lib.Ieee.{Float}
 use native.Mathlib.Omega.{arith}
 use borrow.Author.Tests.{eqb-true, eqb-false}
 use Rattle.loops.specs.Pick.{either}
-use Rattle.loops.specs.Upto.{upto}
+use Rattle.loops.specs.Upto.{upto, upto-holds}
 use Rattle.loops.specs.Downto.{downto}
 use Rattle.loops.specs.Runs.{go}
 use Rattle.marks.specs.Marks.{has}
@@ -31,12 +31,6 @@ use Rattle.engines.specs.declared.node.StateSets.{StateSets}
 use Rattle.engines.specs.Nodes.{noNode}
 use Rattle.engines.specs.declared.plan.Coins.{Coins}
 use Rattle.engines.specs.declared.plan.Heard.{Heard}
-
--- what each turn below n keeps holds at the end of the loop
-upto-holds : {S : Type 0} (P : S → Type 0) (f : ℕ → S → S) (n : ℕ) → ((i : ℕ) (s : S) → i < n → P s → P (f i s)) → (s : S) → P s → P (upto n f s)
-unfolding upto
-upto-holds P f zero h s p = p
-upto-holds P f (suc n) h s p = h n (upto n f s) (omega arith) (upto-holds P f n (λ i t l. h i t (omega arith)) s p)
 
 -- a store is seen at its place, and nowhere else
 at-set : (P : ℕ → Type 0) (l : List ℕ) (i v d k : ℕ) → i < length l → (k ≡ i → P v) → ((k ≡ i → ⊥) → P (getD l k d)) → P (getD (set l i v) k d)

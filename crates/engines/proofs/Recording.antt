@@ -7,13 +7,15 @@ use native.Mathlib.Omega.{arith}
 use lib.ListN.{length, length-append}
 use lib.Seq.{sets, length-sets}
 use borrow.Author.Tests.{le-ltb}
-use Rattle.loops.specs.Runs.{runs, runs-none, runs-stop, runs-turn, told-none, told-stop, told-turn}
+use Rattle.loops.specs.Runs.{runs, runs-none, runs-stop, told-none, told-stop, told-turn}
 use Rattle.loops.specs.Stores.{sets-append}
-use Rattle.engines.specs.Capture.{begun, finished, slotOf, over, rowsDue, rowsOf}
+use Rattle.engines.specs.Capture.{begun, slotOf, over, rowsDue, rowsOf}
+use Rattle.engines.specs.Stretch.{Stepped}
 use Rattle.engines.specs.Rows.{isDue, cells, rowOf, putRow}
 use Rattle.engines.specs.declared.rows.Row.{Row}
 use Rattle.engines.specs.declared.capture.CeRound.{CeRound}
 use Rattle.engines.specs.declared.capture.CeState.{CeState}
+use Rattle.engines.specs.declared.capture.CeStep.{CeStep}
 
 -- no rows leave the buffer
 pub no-rows : (rows l : List ℕ) (at : ℕ) → 0 ≡ length l → rows ≡ sets rows at l
@@ -27,28 +29,22 @@ pub record Left (ws links : List ℕ) (conf : CeRound) (v : CeState) (final : Li
   pub rest : sets rows at (rowsOf ws links conf k t) ≡ final
 
 module _ (ws links : List ℕ) (conf : CeRound) where
-  -- what is left to write is the row of this slot, and then what is left after it
-  pub split : {k : ℕ} (t : CeState) {b : CeState} → 0 < k → over t ≡ false → b ≡ begun conf t → rowsOf ws links conf k t ≡ rowsDue conf b ++ rowsOf ws links conf (k - 1) (finished ws links conf b)
-  unfolding slotOf
-  split t h s e = rw e (told-turn _ _ _ h s refl)
-
   module _ {v : CeState} {final : List ℕ} {k : ℕ} {t : CeState} {at : ℕ} {rows : List ℕ} (l : Left ws links conf v final k t at rows) where
     -- the row that is due fits
-    pub left-room : {b : CeState} → 0 < k → over t ≡ false → b ≡ begun conf t → at + length (rowsDue conf b) ≤ length rows
-    left-room {b} h s e =
-        omega (arith, l .fits, ap length (split t h s e), length-append (rowsDue conf b) (rowsOf ws links conf (k - 1) (finished ws links conf b)))
+    pub left-room : 0 < k → over t ≡ false → at + length (rowsDue conf (begun conf t)) ≤ length rows
+    left-room h s =
+        let step = slotOf ws links conf in
+        omega (arith, l .fits, ap length (told-turn over step (λ d. rowsDue conf (begun conf d)) {s = t} h s refl), length-append (rowsDue conf (begun conf t)) (rowsOf ws links conf (k - 1) (step t)))
 
-    pub left-turn : {b t′ : CeState} {at′ : ℕ} {rows′ : List ℕ} → 0 < k → over t ≡ false → b ≡ begun conf t
-        → (at′ ≡ at + length (rowsDue conf b)) × (rows′ ≡ sets rows at (rowsDue conf b)) → t′ ≡ finished ws links conf b
-        → Left ws links conf v final (k - 1) t′ at′ rows′
-    unfolding slotOf
-    left-turn {b} h s e w et =
-        let due = rowsDue conf b in
-        let more = rowsOf ws links conf (k - 1) (finished ws links conf b) in
+    pub left-turn : {r : CeStep} {at′ : ℕ} {rows′ : List ℕ} → (at′ ≡ at + length (rowsDue conf (begun conf t))) × (rows′ ≡ sets rows at (rowsDue conf (begun conf t)))
+        → Stepped ws links conf k t r → Left ws links conf v final (r .left) (r .state) at′ rows′
+    left-turn {r} w st =
+        let due = rowsDue conf (begun conf t) in
+        let more = rowsOf ws links conf (r .left) (r .state) in
         record {
-          run = runs-turn _ _ h s (et ∙ ap (finished ws links conf) e) (l .run);
-          fits = rw (w .0, w .1, et, length-sets) (omega (arith, l .fits, ap length (split t h s e), length-append due more));
-          rest = rw (w .0, w .1, et, sets-append due more rows at, ← split t h s e) (l .rest);
+          run = st .run ∙ l .run;
+          fits = rw (w .0, w .1, length-sets) (omega (arith, l .fits, ap length (st .rows), length-append due more));
+          rest = rw (w .0, w .1, sets-append due more rows at, ← st .rows) (l .rest);
         }
 
     pub left-stop : 0 < k → over t ≡ true → (t ≡ v) × (rows ≡ final)
@@ -58,10 +54,11 @@ module _ (ws links : List ℕ) (conf : CeRound) where
     left-none h = (runs-none _ _ h (l .run), rw (told-none _ _ _ t h) at (l .rest))
 
     -- where the rows end does not move
-    pub left-end : {b t′ : CeState} {at′ end : ℕ} → 0 < k → over t ≡ false → b ≡ begun conf t → at′ ≡ at + length (rowsDue conf b) → t′ ≡ finished ws links conf b
-        → at + length (rowsOf ws links conf k t) ≡ end → at′ + length (rowsOf ws links conf (k - 1) t′) ≡ end
-    left-end {b} h s e w et g =
-        rw (w, et) (omega (arith, g, ap length (split t h s e), length-append (rowsDue conf b) (rowsOf ws links conf (k - 1) (finished ws links conf b))))
+    pub left-end : {r : CeStep} {at′ end : ℕ} → at′ ≡ at + length (rowsDue conf (begun conf t)) → Stepped ws links conf k t r
+        → at + length (rowsOf ws links conf k t) ≡ end → at′ + length (rowsOf ws links conf (r .left) (r .state)) ≡ end
+    left-end {r} w st g =
+        let more = rowsOf ws links conf (r .left) (r .state) in
+        rw w (omega (arith, g, ap length (st .rows), length-append (rowsDue conf (begun conf t)) more))
 
     -- behind the last row the buffer is as it is to be
     pub left-written : {end : ℕ} → at + length (rowsOf ws links conf k t) ≡ end → end ≤ at → rows ≡ final

@@ -5,14 +5,15 @@ use mathlib.Core.Path.{_≡_, sym, ap, _∙_}
 use Prim.Native.Nat.{ℕ, _+_, _-_, _*_, _≤_, _<_}
 use native.Mathlib.Omega.{arith}
 use lib.ListN.{length, length-append}
-use Rattle.loops.specs.Runs.{runs, runs-none, runs-stop, runs-turn, told-none, told-stop}
+use Rattle.loops.specs.Runs.{runs, runs-none, runs-stop, told-none, told-stop}
 use Rattle.loops.specs.Pick.{either}
-use Rattle.engines.specs.Capture.{begun, finished, slotOf, over, rowsDue, rowsOf, dueAfter, Surveyed}
+use Rattle.engines.specs.Capture.{begun, slotOf, over, rowsDue, rowsOf, dueAfter, Surveyed}
 use Rattle.engines.specs.declared.rows.Row.{Row}
 use Rattle.engines.specs.Rows.{isDue, cells, rowOf}
-use Rattle.engines.proofs.Recording.{split}
+use Rattle.engines.specs.Stretch.{Stepped}
 use Rattle.engines.specs.declared.capture.CeRound.{CeRound}
 use Rattle.engines.specs.declared.capture.CeState.{CeState}
+use Rattle.engines.specs.declared.capture.CeStep.{CeStep}
 use Rattle.engines.proofs.Shortage.{short-stays}
 
 five : (b : Bool) (need : ℕ) (r : Row) → either b (need + 1) need * 5 ≡ need * 5 + length (either b (cells r) [])
@@ -29,17 +30,16 @@ pub record Counted (ws links : List ℕ) (conf : CeRound) (v : CeState) (total n
   pub small : need + k ≤ n
 
 module _ (ws links : List ℕ) (conf : CeRound) {v : CeState} {total n k : ℕ} {t : CeState} {need : ℕ} (l : Counted ws links conf v total n k t need) where
-  pub counted-turn : {b t′ : CeState} {need′ : ℕ} → 0 < k → over t ≡ false → b ≡ begun conf t → need′ ≡ dueAfter need b → t′ ≡ finished ws links conf b
-      → Counted ws links conf v total n (k - 1) t′ need′
-  unfolding slotOf rowsDue dueAfter
-  counted-turn {b} h s e en et =
-      let due = rowsDue conf b in
-      let more = rowsOf ws links conf (k - 1) (finished ws links conf b) in
+  pub counted-turn : {need′ : ℕ} {r : CeStep} → need′ ≡ dueAfter need (t .«next_row») (t .slot) → Stepped ws links conf k t r → Counted ws links conf v total n (r .left) (r .state) need′
+  unfolding rowsDue dueAfter begun
+  counted-turn {r} e st =
+      let b = begun conf t in
+      let more = rowsOf ws links conf (r .left) (r .state) in
       record {
-        run = runs-turn _ _ h s (et ∙ ap (finished ws links conf) e) (l .run);
-        rows = rw (en, et)
-            (omega (arith, l .rows, ap length (split ws links conf t h s e), length-append due more, five (isDue (b .«next_row») (b .slot)) need (rowOf (b .«next_row») (conf .voting .n) (b .nodes))));
-        small = rw en (omega (arith, l .small, one (isDue (b .«next_row») (b .slot)) need));
+        run = st .run ∙ l .run;
+        rows = rw e
+            (omega (arith, l .rows, ap length (st .rows), length-append (rowsDue conf b) more, five (isDue (t .«next_row») (t .slot)) need (rowOf (t .«next_row») (conf .voting .n) (b .nodes))));
+        small = rw e (omega (arith, l .small, st .less, one (isDue (t .«next_row») (t .slot)) need));
       }
 
 -- the ways out of the run: the round is over, its slots are run, or words have run short

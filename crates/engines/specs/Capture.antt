@@ -89,8 +89,8 @@ over c = c .ended
 unfoldable pub rowsDue : CeRound → CeState → List ℕ
 rowsDue conf c = either (isDue (c .«next_row») (c .slot)) (cells (rowOf (c .«next_row») (conf .voting .n) (c .nodes))) []
 
-unfoldable pub dueAfter : ℕ → CeState → ℕ
-dueAfter due c = either (isDue (c .«next_row») (c .slot)) (due + 1) due
+unfoldable pub dueAfter : ℕ → ℕ → ℕ → ℕ
+dueAfter due next slot = either (isDue next slot) (due + 1) due
 
 -- the rows of a round, one behind the other
 abbrev pub rowsOf : List ℕ → List ℕ → CeRound → ℕ → CeState → List ℕ

@@ -10,3 +10,4 @@ pub mod Turns
 pub mod Cases
 pub mod Ce
 pub mod Capture
+pub mod Stretch

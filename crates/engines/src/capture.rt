@@ -1,4 +1,5 @@
 // Ported from phy/ce.rs: a slot of a capture round, in two halves: up to its row, and from its goal test on; and its repetition.
+ghost use mathlib.Core.Bool.{false};
 ghost use mathlib.Core.Path.{_≡_};
 ghost use Prim.Native.Nat.{_+_, _*_, _^_, _≤_, _<_};
 ghost use lib.Dec.{ltb};
@@ -6,7 +7,9 @@ ghost use lib.ListN.{length};
 ghost use lib.Seq.{sets};
 ghost use Rattle.loops.specs.Runs.{runs};
 ghost use Rattle.engines.specs.Capture.{begun, goalMet, acted, finished, slotOf, over, dueAfter, rowsDue, rowsOf, Surveyed, startOf, answerOf, bufferOf};
+ghost use Rattle.engines.specs.Stretch.{Stepped};
 use super::ce;
+use super::idle;
 use super::metrics::MetricsCollector;
 use super::node;
 use super::node::Node;
@@ -146,15 +149,54 @@ pub struct CeRun {
     pub due: u64,
 }
 
-// One more if a row is due in the slot that has begun.
-fn due_after(due: u64, c: CeState) -> u64
+// A round after a step, how many slots it has left, and whether nothing was sent in the step.
+pub struct CeStep {
+    pub state: CeState,
+    pub left: u64,
+    pub quiet: bool,
+}
+
+// One more if a row is due in a slot.
+fn due_after(due: u64, next_row: u64, slot: u64) -> u64
     requires { ⌜ due + 1 < 2 ^ 64 ⌝ }
-    ensures { λ r. ⌜ r ≡ dueAfter due c ⌝ }
+    ensures { λ r. ⌜ r ≡ dueAfter due «next_row» slot ⌝ }
 {
-    if rows::row_due(c.next_row, c.slot) {
+    if rows::row_due(next_row, slot) {
         return due + 1;
     }
     due
+}
+
+// A step of a round: one slot or, where nobody acts, a stretch of them. Looking for one takes time, and there is none while positions flood, so it is looked
+// for only if nothing was sent in the step before.
+fn advance(
+    words: &[u64],
+    links: &[u64; 64],
+    conf: CeRound,
+    c: CeState,
+    left: u64,
+    quiet: bool,
+) -> CeStep
+    requires { ⌜ 0 < left ⌝ }
+    requires { ⌜ c .ended ≡ false ⌝ }
+    ensures { λ r. ⌜ Stepped (now (words .entry)) (now (links .entry)) conf left c r ⌝ }
+{
+    if quiet {
+        let k = idle::idle_slots(conf, c, left);
+        if 0 < k {
+            return CeStep {
+                state: idle::pass_idle(conf, c, k),
+                left: left - k,
+                quiet,
+            };
+        }
+    }
+    let d = slot(words, links, conf, c);
+    CeStep {
+        state: d,
+        left: left - 1,
+        quiet: d.bytes_sent == c.bytes_sent,
+    }
 }
 
 // The round without its rows, and how many are due. Once words have run short the rest is not run: a round may have four billion slots, and a lack stays noted.
@@ -164,6 +206,7 @@ fn dry_run(words: &[u64], links: &[u64; 64], conf: CeRound, c: CeState, k: u64) 
     let mut d = c;
     let mut left = k;
     let mut due: u64 = 0;
+    let mut quiet = false;
     while 0 < left {
         if d.ended {
             return CeRun { state: d, due };
@@ -171,22 +214,24 @@ fn dry_run(words: &[u64], links: &[u64; 64], conf: CeRound, c: CeState, k: u64) 
         if ran_short(d) {
             return CeRun { state: d, due };
         }
-        let ticked = begin(conf, d);
-        due = due_after(due, ticked);
-        d = finish(words, links, conf, ticked);
-        left -= 1;
+        due = due_after(due, d.next_row, d.slot);
+        let s = advance(words, links, conf, d, left, quiet);
+        d = s.state;
+        left = s.left;
+        quiet = s.quiet;
     }
     CeRun { state: d, due }
 }
 
-// The row of this slot, if one is due, behind the numbers already used; how many are used then.
+// The row of this slot, if one is due, behind the numbers already used; how many are used then. A row shows the positions ticked.
 fn put_due(rows: &mut [u64], used: usize, conf: CeRound, c: CeState) -> usize
-    requires { ⌜ used + length (rowsDue conf c) ≤ length (now rows) ⌝ }
-    ensures { λ r. ⌜ (r ≡ used + length (rowsDue conf c)) × (now (rows .exit) ≡ sets (now (rows .entry)) used (rowsDue conf c)) ⌝ }
+    requires { ⌜ used + length (rowsDue conf (begun conf c)) ≤ length (now rows) ⌝ }
+    ensures { λ r. ⌜ (r ≡ used + length (rowsDue conf (begun conf c))) × (now (rows .exit) ≡ sets (now (rows .entry)) used (rowsDue conf (begun conf c))) ⌝ }
 {
     if rows::row_due(c.next_row, c.slot) {
         let voting = conf.voting;
-        let nodes = c.nodes;
+        let b = begin(conf, c);
+        let nodes = b.nodes;
         let r = rows::take_snapshot(c.next_row, nodes, voting.n);
         rows::put_row(&mut rows[used..], r);
         return used + 5;
@@ -213,6 +258,7 @@ fn record_run(
     let mut d = c;
     let mut left = k;
     let mut at = used;
+    let mut quiet = false;
     while 0 < left {
         if d.ended {
             return;
@@ -220,10 +266,11 @@ fn record_run(
         if end <= at {
             return;
         }
-        let b = begin(conf, d);
-        at = put_due(rows, at, conf, b);
-        d = finish(words, links, conf, b);
-        left -= 1;
+        at = put_due(rows, at, conf, d);
+        let s = advance(words, links, conf, d, left, quiet);
+        d = s.state;
+        left = s.left;
+        quiet = s.quiet;
     }
 }
 

@@ -44,7 +44,7 @@ pub struct Plan {
 }
 
 // The slots since the last progress; none where that lies ahead, which no room leads to.
-fn since(slot: u64, last: u64) -> u64
+pub(crate) fn since(slot: u64, last: u64) -> u64
     ensures { λ r. ⌜ r ≡ slot - last ⌝ }
 {
     if slot < last { 0 } else { slot - last }

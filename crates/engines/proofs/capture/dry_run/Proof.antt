@@ -9,10 +9,10 @@ use Rattle.engines.proofs.capture.dry_run.Statement.{statement}
 use Rattle.engines.proofs.capture.dry_run.Tie as tie
 
 abbrev Inv-loop : tie.InvT-loop
-Inv-loop words links conf k d₀ left₀ due₀ d left due = Counted words links conf (runs over (slotOf words links conf) k d₀) (length (rowsOf words links conf k d₀)) k left d due
+Inv-loop words links conf k d₀ left₀ due₀ quiet₀ d left due quiet = Counted words links conf (runs over (slotOf words links conf) k d₀) (length (rowsOf words links conf k d₀)) k left d due
 
 abbrev μ-loop : tie.MeasureT-loop
-μ-loop words links conf k d₀ left₀ due₀ d left due = left
+μ-loop words links conf k d₀ left₀ due₀ quiet₀ d left due quiet = left
 
 pub dry-run-spec : {M : Type 1} → statement M
 dry-run-spec =
@@ -24,10 +24,8 @@ dry-run-spec =
     (λ c. counted-stop _ _ _ _ _ (c .before .before .loop .inv) (c .before .loop-test .taken) (c .if1 .taken))
     (λ c κs. search needs)
     (λ c. counted-short _ _ _ _ _ (c .before .before .before .before .loop .inv) (sym (c .before .ran-short .ensures) ∙ c .if2 .taken))
-    (λ c κs. search needs)
-    (λ c κs. omega (arith, c .before .before .before .before .before .loop .inv .small, c .before .before .before .before .loop-test .taken, c .before .before .before .before .before .before .before .fits .k))
-    (λ c κs. search needs)
-    (λ c. search needs)
-    (λ c. search needs)
-    (λ c. counted-turn _ _ _ (c .before .before .before .before .before .before .before .loop .inv) (c .before .before .before .before .before .before .loop-test .taken) (c .before .before .before .before .before .if1 .left) (c .before .before .begin .ensures) (c .before .due-after .ensures) (c .finish .ensures))
+    (λ c κs. omega (arith, c .before .before .before .before .loop .inv .small, c .before .before .before .loop-test .taken, c .before .before .before .before .before .before .fits .k))
+    (λ c κs. (c .before .before .before .before .loop-test .taken, c .before .before .before .if1 .left))
+    (λ c. c .before .advance .ensures .less)
+    (λ c. counted-turn _ _ _ (c .before .before .before .before .before .before .before .loop .inv) (c .before .before .due-after .ensures) (c .before .advance .ensures))
     (λ c. counted-none _ _ _ _ _ (c .before .loop .inv) (c .loop-test .left)))

@@ -11,12 +11,12 @@ use Rattle.engines.proofs.capture.record_run.Statement.{statement}
 use Rattle.engines.proofs.capture.record_run.Tie as tie
 
 abbrev Inv-loop : tie.InvT-loop
-Inv-loop words links rows₀ used end conf k d₀ left₀ at₀ rows d left at =
+Inv-loop words links rows₀ used end conf k d₀ left₀ at₀ quiet₀ rows d left at quiet =
     Left words links conf (runs over (slotOf words links conf) k d₀) (sets rows₀ used (rowsOf words links conf k d₀)) left d at rows ×
     (at + length (rowsOf words links conf left d) ≡ end)
 
 abbrev μ-loop : tie.MeasureT-loop
-μ-loop words links rows₀ used end conf k d₀ left₀ at₀ rows d left at = left
+μ-loop words links rows₀ used end conf k d₀ left₀ at₀ quiet₀ rows d left at quiet = left
 
 pub record-run-spec : {M : Type 1} → statement M
 record-run-spec =
@@ -29,18 +29,13 @@ record-run-spec =
     (λ c. left-stop _ _ _ (c .before .before .loop .inv .0) (c .before .loop-test .taken) (c .if1 .taken) .1)
     (λ c. left-length _ _ _ (c .before .before .before .loop .inv .0) ∙ simp length-sets)
     (λ c. left-written _ _ _ (c .before .before .before .loop .inv .0) (c .before .before .before .loop .inv .1) (c .if2 .taken))
-    (λ c κs. search needs)
-    (λ c κs. left-room _ _ _ (c .before .before .before .before .before .loop .inv .0) (c .before .before .before .before .loop-test .taken) (c .before .before .before .if1 .left) (c .before .begin .ensures))
-    (λ c κs. search needs)
-    (λ c. search needs)
-    (λ c. search needs)
+    (λ c κs. left-room _ _ _ (c .before .before .before .before .loop .inv .0) (c .before .before .before .loop-test .taken) (c .before .before .if1 .left))
+    (λ c κs. (c .before .before .before .before .before .before .loop-test .taken, c .before .before .before .before .before .if1 .left))
+    (λ c. c .before .advance .ensures .less)
     (λ c.
     let i = c .before .before .before .before .before .before .before .before .before .loop .inv in
-    let h = c .before .before .before .before .before .before .before .before .loop-test .taken in
-    let s = c .before .before .before .before .before .before .before .if1 .left in
-    let b = c .before .before .before .before .before .begin .ensures in (
-      left-turn _ _ _ (i .0) h s b (c .before .before .before .put-due .ensures) (c .finish .ensures),
-      left-end _ _ _ (i .0) h s b (c .before .before .before .put-due .ensures .0) (c .finish .ensures) (i .1),
-    ))
+    let put = c .before .before .before .before .put-due .ensures in
+    let st = c .before .advance .ensures in
+    (left-turn _ _ _ (i .0) put st, left-end _ _ _ (i .0) (put .0) st (i .1)))
     (λ c. left-length _ _ _ (c .before .loop .inv .0) ∙ simp length-sets)
     (λ c. left-none _ _ _ (c .before .loop .inv .0) (c .loop-test .left) .1))
