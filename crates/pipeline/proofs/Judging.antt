@@ -2,24 +2,17 @@
 use mathlib.Core.Path.{_≡_, refl, sym, ap, _∙_}
 use mathlib.Core.Bool.{Bool, true, false, _&&_}
 use mathlib.Core.List.{List}
-use Prim.Native.Nat.{ℕ, zero, suc, _<_}
-use native.Mathlib.Omega.{arith}
+use Prim.Native.Nat.{ℕ, _<_}
 use lib.Dec.{ltb}
 use lib.ListN.{getD}
 use borrow.Author.Tests.{lt-ltb}
 use Rattle.loops.specs.Pick.{either}
-use Rattle.loops.specs.Upto.{upto}
+use Rattle.loops.specs.Upto.{upto-same}
 use Rattle.marks.specs.Marks.{has, marks}
 use Rattle.marks.specs.Sets.{has-marks}
 use Rattle.engines.specs.Marked.{overMarks}
 use Rattle.pipeline.specs.Pending.{commonMarks, isJudged, judgeAt, ripeOf, settleAt, judged}
 use Rattle.pipeline.specs.declared.two_pc_pipeline.NodeTwoPcState.{NodeTwoPcState}
-
--- loops whose turns do the same
-upto-same : {S : Type 0} (f g : ℕ → S → S) (s : S) (n : ℕ) → ((i : ℕ) → i < n → (t : S) → f i t ≡ g i t) → upto n f s ≡ upto n g s
-unfolding upto
-upto-same f g s zero h = refl
-upto-same f g s (suc k) h = h k (omega arith) (upto k f s) ∙ ap (g k) (upto-same f g s k (λ i l. h i (omega arith)))
 
 within : (i : ℕ) (b : Bool) → i < 64 → (ltb i 64 && b) ≡ b
 within i b h = rw (lt-ltb i 64 h)

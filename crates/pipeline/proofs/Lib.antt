@@ -6,6 +6,7 @@ pub mod Recorded
 pub mod Sums
 pub mod Growth
 pub mod Shortage
+pub mod Quieting
 pub mod Rounding
 pub mod Logs
 pub mod Totals

@@ -1,4 +1,5 @@
 pub mod Flood
+pub mod Quiet
 pub mod Pending
 pub mod Pipeline
 pub mod Round

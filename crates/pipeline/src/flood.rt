@@ -3,6 +3,7 @@ ghost use mathlib.Core.Path.{_≡_};
 ghost use Prim.Native.Nat.{_<_};
 ghost use Rattle.engines.specs.Marked.{overMarks};
 ghost use Rattle.pipeline.specs.Flood.{floodLength, framed, hearAt, hearersOf, sendAt, floodPlan, inState, afterFlood, afterListen, nextNode, turnedAll, dueAfter, nobodyFloods, sentAfter, floodSlot, resetAll, floodStart, FloodSurveyed, rowAt, writtenRound, Writing};
+use super::quiet;
 use engines::limits;
 use engines::node;
 use engines::node::Node;
@@ -97,7 +98,7 @@ fn hear(words: &[u64], loss: f64, j: usize, p: FloodPlan) -> FloodPlan
     frame(p, j, gone, e)
 }
 
-fn find_hearers(row: u64, listening: u64) -> u64
+pub(crate) fn find_hearers(row: u64, listening: u64) -> u64
     ensures { λ r. ⌜ r ≡ hearersOf row listening ⌝ }
 {
     sets::intersection(row, listening)
@@ -237,7 +238,7 @@ fn sent_after(sent: u64, flooding: u64, bytes: u64) -> u64
 }
 
 // One slot of a round.
-fn flood_slot(words: &[u64], links: &[u64; 64], conf: FloodConf, f: FloodRun) -> FloodRun
+pub(crate) fn flood_slot(words: &[u64], links: &[u64; 64], conf: FloodConf, f: FloodRun) -> FloodRun
     ensures { λ r. ⌜ r ≡ floodSlot (now (words .entry)) (now (links .entry)) conf f ⌝ }
 {
     let at = f.at;
@@ -286,8 +287,9 @@ pub(crate) fn flood_slots(
         if ran_short(g) {
             return g;
         }
-        g = flood_slot(words, links, conf, g);
-        left -= 1;
+        let step = quiet::advance(words, links, conf, g, left);
+        g = step.run;
+        left = step.left;
     }
     g
 }
@@ -353,7 +355,8 @@ pub fn write_rows(
         }
         write_row(rows, next, conf, g);
         next = due_after(next, g.next, g.slot);
-        g = flood_slot(words, links, conf, g);
-        left -= 1;
+        let step = quiet::advance(words, links, conf, g, left);
+        g = step.run;
+        left = step.left;
     }
 }

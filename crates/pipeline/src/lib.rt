@@ -6,4 +6,5 @@ mod pending;
 pub mod pipeline;
 mod prepare;
 mod process;
+mod quiet;
 pub mod two_pc_pipeline;

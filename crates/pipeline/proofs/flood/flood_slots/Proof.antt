@@ -1,6 +1,6 @@
 use mathlib.Core.Path.{_≡_, refl, sym, ap, _∙_}
 use mathlib.Core.Bool.{true≢false}
-use Rattle.loops.specs.Runs.{runs, runs-none, runs-stop, runs-turn}
+use Rattle.loops.specs.Runs.{runs, runs-none, runs-stop}
 use Rattle.pipeline.specs.Flood.{isOver, floodSlot, floodRound}
 use Rattle.pipeline.specs.declared.flood.FloodRun.{FloodRun}
 use Rattle.pipeline.proofs.Shortage.{flood-short}
@@ -44,8 +44,7 @@ flood-slots-spec =
     returns
     (λ c κs. search needs)
     returns-2
-    (λ c κs. search needs)
-    (λ c. search needs)
-    (λ c. search needs)
-    (λ c. runs-turn _ _ (c .before .before .before .before .loop-test .taken) (c .before .before .before .if1 .left) (c .flood-slot .ensures) (c .before .before .before .before .before .loop .inv))
+    (λ c κs. (c .before .before .before .loop-test .taken, c .before .before .if1 .left))
+    (λ c. c .before .advance .ensures .less)
+    (λ c. c .before .advance .ensures .run ∙ c .before .before .before .before .before .before .loop .inv)
     returns-3)

@@ -1,7 +1,8 @@
 use mathlib.Core.Path.{_≡_, refl, sym, ap, _∙_}
-use Rattle.loops.specs.Runs.{runs, runs-none, runs-stop, runs-turn}
+use Rattle.loops.specs.Runs.{runs, runs-none, runs-stop}
 use lib.ListN.{length}
-use Rattle.pipeline.proofs.Flooding.{row-length, write-is}
+use Rattle.pipeline.proofs.Flooding.{row-length}
+use Rattle.pipeline.proofs.Quieting.{step-writes}
 use Rattle.pipeline.specs.Flood.{writingOver, Writing, writeSlot, writtenRound}
 use borrow.Author.Needs.{needs}
 use Rattle.pipeline.proofs.flood.write_rows.Statement.{statement}
@@ -32,9 +33,8 @@ write-rows-spec =
     returns
     (λ c κs. search needs)
     (λ c κs. search needs)
-    (λ c κs. search needs)
-    (λ c. search needs)
-    (λ c. search needs)
-    (λ c. (ap length (c .before .before .before .before .write-row .ensures) ∙ (row-length _ _ _ _ ∙ c .before .before .before .before .before .before .before .before .loop .inv .0), runs-turn _ _ (c .before .before .before .before .before .before .before .loop-test .taken) (c .before .before .before .before .before .before .if1 .left) (write-is _ _ _ _ _ _ (c .before .before .before .before .write-row .ensures) (c .before .due-after .ensures) (c .flood-slot .ensures)) (c .before .before .before .before .before .before .before .before .loop .inv .1)))
+    (λ c κs. (c .before .before .before .before .before .before .loop-test .taken, c .before .before .before .before .before .if1 .left))
+    (λ c. c .before .advance .ensures .less)
+    (λ c. (ap length (c .before .before .before .before .before .write-row .ensures) ∙ (row-length _ _ _ _ ∙ c .before .before .before .before .before .before .before .before .before .loop .inv .0), step-writes _ _ _ _ _ (c .before .before .before .before .before .write-row .ensures) (c .before .before .due-after .ensures) (c .before .advance .ensures) ∙ c .before .before .before .before .before .before .before .before .before .loop .inv .1))
     (λ c. c .before .loop .inv .0)
     returns-2)
