@@ -17,8 +17,10 @@ use std::time::{Duration, Instant};
 const LAST: u64 = u32::MAX as u64;
 /// Digits that a line may have.
 const DIGITS: usize = 60000;
-/// Slots of one round that the Rust is made to run here; a longer one has to end earlier.
+/// Slots of one round that are looked at one by one; in a longer one nobody may act behind them.
 const SHORT: u64 = 300;
+/// Slots of one round that the Rust is made to run here; a longer one has to end earlier.
+const LONG: u64 = 150_000;
 
 #[derive(Clone, Debug)]
 struct Frame {
@@ -177,10 +179,20 @@ impl Frame {
             };
             let length = end - room.slot;
             cost += length * length * (n * n) as u64;
-            if !goal && slots > SHORT || cost > 4_000_000 {
+            if cost > 4_000_000 {
                 return None;
             }
-            room.round(&mut rng).unwrap();
+            if goal || slots <= SHORT {
+                room.round(&mut rng).unwrap();
+                continue;
+            }
+            cost += slots.min(LONG) * n as u64;
+            if slots > LONG || cost > 4_000_000 {
+                return None;
+            }
+            if room.long_round(SHORT, &mut rng)?.is_err() {
+                return refused(16, &rng);
+            }
         }
         Some(Ran { refusal: 0, bytes: room.bytes, drawn: rng.cursor() })
     }
@@ -200,7 +212,7 @@ impl Frame {
             if slot + length > LAST {
                 return refused(15);
             }
-            if length.min((n + 1) * repeats) > SHORT {
+            if length.min((n + 1) * repeats) > LONG {
                 return None;
             }
             if room.round().is_err() {
@@ -625,11 +637,42 @@ fn exact_words(r: &mut Prng, out: &mut Vec<(String, Vec<u8>)>) {
     }
 }
 
+/// Rounds of thousands of slots in which, for the most part, nothing but ticks happens: long timeouts, positions that nobody hears, many repeats.
+fn long_rounds(r: &mut Prng, out: &mut Vec<(String, Vec<u8>)>) {
+    let kind = 1 + r.below(2) as u8;
+    let topology = 1 + r.below(5) as u8;
+    let positions = 2 + r.below(5) as u8;
+    let much = |r: &mut Prng| *r.pick(&[301, 999, 5000, 20_000]) + r.below(10_000) as u32;
+    let (span, slots) = if kind == 1 {
+        let repeats = much(r);
+        (repeats, *r.pick(&[u32::MAX, u32::MAX, repeats / 2, repeats + 1, repeats * 3]))
+    } else {
+        let timeout = *r.pick(&[150, 500, 3000, 30_000, u32::MAX]);
+        (timeout, much(r))
+    };
+    let f = Frame {
+        positions,
+        argument: argument(r, topology, positions),
+        transactions: r.below(4) as u8,
+        span,
+        slots,
+        loss: *r.pick(&[0, 0, LOSSES[1], LOSSES[4], LOSSES[7]]),
+        abort: *r.pick(&ABORTS),
+        seed: r.next(),
+        words: words(r, 200),
+        ..plain(kind, topology, positions)
+    };
+    out.push((format!("long rounds, kind {kind}"), f.line()));
+}
+
 fn lines(seed: u64, scale: u64) -> Vec<(String, Vec<u8>)> {
     let mut r = Prng::of(seed, "frames");
     let mut out: Vec<(String, Vec<u8>)> = ends(&mut r).into_iter().map(|(k, f)| (k, f.line())).collect();
     out.push(("empty".into(), Vec::new()));
     long_lines(&mut r, &mut out);
+    for _ in 0..200 * scale {
+        long_rounds(&mut r, &mut out);
+    }
     for k in 0..600 * scale {
         out.push(("drawn".into(), well_formed(&mut r).line()));
         faulty(&mut r, &mut out);
@@ -780,7 +823,7 @@ fn met(items: &[Item]) {
     println!("met: numbers that came out of the Rust's rounds: {}", items.iter().filter(|i| i.is_of_the_rust()).count());
 }
 
-/// Three pipeline rounds that end at the last slot: 2^32 - 1 slots are run. Asked for by FRAME_LONG=1.
+/// Three pipeline rounds that end at the last slot, 2^32 - 1: the fourth is refused.
 fn bound(t: &mut Tally) {
     let f = Frame { span: u32::MAX, slots: u32::MAX / 3, ..plain(1, 1, 2) };
     // the Rust with a bound of 15 and 5 slots a round: no stop, and the fourth round finds the bound
@@ -798,7 +841,7 @@ fn bound(t: &mut Tally) {
     let (out, _) = fed(vec![f.line(), b"\n".to_vec()], None);
     let told = || String::from_utf8(f.line()).unwrap();
     t.same("refusal 14", 1, told, &String::from_utf8_lossy(&out).into_owned(), &"refused 14\n".to_string());
-    println!("met: answer: refused 14: 1 (4294967295 slots in {:.1} s)", start.elapsed().as_secs_f64());
+    println!("met: answer: refused 14: 1 (4294967295 slots in {:.3} s)", start.elapsed().as_secs_f64());
 }
 
 pub fn run(o: &Options) -> Tally {
@@ -816,11 +859,7 @@ pub fn run(o: &Options) -> Tally {
         compare(&mut t, "a byte at a time", &few, fed(bytes, Some(Duration::from_micros(30))));
         last_lines(&mut t);
         met(&all);
-        if std::env::var_os("FRAME_LONG").is_some() {
-            bound(&mut t);
-        } else {
-            println!("frame: refusal 14 was not asked for, since it takes 4294967295 slots (FRAME_LONG=1 asks for it)");
-        }
+        bound(&mut t);
     }
     times();
     t

@@ -243,30 +243,51 @@ impl Capture {
         (end, goal, nodes, metrics, next_row)
     }
 
-    /// One round. A missing word leaves room and generator as they were. The slots in between are seen by running the
-    /// round anew with every shorter length: the words are the same, so the slots are.
+    /// The positions before each of the first `slots` slots of a round: it is run anew with every shorter length, and since the words are the same the slots are.
+    fn moments(&self, slots: u64, rng: &ChaCha8Rng) -> Vec<Vec<Node>> {
+        (0..slots).map(|k| self.run(k, &mut rng.clone()).2).collect()
+    }
+
+    /// One round. A missing word leaves room and generator as they were.
     pub fn round(&mut self, rng: &mut ChaCha8Rng) -> Result<Ran, MissingWord> {
         let mut whole = rng.clone();
-        let (end, goal, nodes, metrics, next_row) = caught(|| self.run(self.round_slots, &mut whole))?;
-        let mut moments = Vec::new();
-        for slots in 0..end - self.slot {
-            moments.push(self.run(slots, &mut rng.clone()).2);
-        }
-        moments.push(nodes.clone());
-        // 01's bytes sent: every flooding position of a slot whose goal test failed.
+        let after = caught(|| self.run(self.round_slots, &mut whole))?;
+        let (end, goal) = (after.0, after.1);
+        let mut moments = self.moments(end - self.slot, rng);
+        moments.push(after.2.clone());
         let acted = moments.len() - 1 - usize::from(goal);
-        for m in &moments[..acted] {
-            for node in m {
-                if node.state == NodeState::Flood {
-                    self.bytes += node.payload.len() as u64;
-                }
+        self.settle(after, &moments[..acted]);
+        *rng = whole;
+        Ok(Ran { end, goal, moments })
+    }
+
+    /// A round of many slots, of which the first `short` alone are looked at one by one; None if anybody floods behind them.
+    pub fn long_round(&mut self, short: u64, rng: &mut ChaCha8Rng) -> Option<Result<(), MissingWord>> {
+        let mut whole = rng.clone();
+        let after = match caught(|| self.run(self.round_slots, &mut whole)) {
+            Ok(after) => after,
+            Err(missing) => return Some(Err(missing)),
+        };
+        let floods = |nodes: &[Node]| nodes.iter().map(|v| v.slots_flood).sum::<u64>();
+        let early = self.run(short, &mut rng.clone()).2;
+        if floods(&early) != floods(&after.2) || after.0 - self.slot < short {
+            return None;
+        }
+        let moments = self.moments(short, rng);
+        self.settle(after, &moments);
+        *rng = whole;
+        Some(Ok(()))
+    }
+
+    /// The room after a round. 01's bytes sent: every flooding position of a slot whose goal test failed (`acted`).
+    fn settle(&mut self, after: (u64, bool, Vec<Node>, MetricsCollector, u64), acted: &[Vec<Node>]) {
+        let goal = after.1;
+        for node in acted.iter().flatten() {
+            if node.state == NodeState::Flood {
+                self.bytes += node.payload.len() as u64;
             }
         }
-        self.nodes = nodes;
-        self.metrics = metrics;
-        self.next_row = next_row;
-        self.slot = end;
-        *rng = whole;
+        (self.slot, _, self.nodes, self.metrics, self.next_row) = after;
         // 01's raise: the first round of a term that reaches the goal.
         if goal && !self.term_done {
             self.term_done = true;
@@ -274,7 +295,6 @@ impl Capture {
                 node.progress_count += 1;
             }
         }
-        Ok(Ran { end, goal, moments })
     }
 
     /// Where the cursor would stand after a round; room and generator are not moved.
