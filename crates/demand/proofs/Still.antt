@@ -5,7 +5,7 @@ use mathlib.Core.Path.{_≡_, refl, sym, ap, _∙_, subst}
 use lib.Dec.{eqb, ltb, leb}
 use lib.ListN.{length, getD, set}
 use native.Mathlib.Omega.{arith}
-use Rattle.loops.specs.Upto.{upto}
+use Rattle.loops.specs.Upto.{upto, upto-holds}
 use Rattle.loops.specs.Runs.{go, tell}
 use Rattle.merges.proofs.Safety.{either-cases}
 use Rattle.engines.specs.Limits.{few}
@@ -24,7 +24,6 @@ use Rattle.pipeline.specs.declared.prepare.Prepared.{Prepared}
 use Rattle.pipeline.specs.declared.pipeline.PipelineConf.{PipelineConf}
 use Rattle.pipeline.specs.declared.pipeline.Pipeline.{Pipeline}
 use Rattle.pipeline.specs.declared.pipeline.RoundAnswer.{RoundAnswer}
-use Rattle.pipeline.proofs.Sums.{upto-holds}
 use Rattle.room.specs.declared.room.Room.{Room}
 use Rattle.room.specs.declared.room.Round.{Round}
 use Rattle.room.specs.Rooms.{sizeOf, afterCapture, pipeConf, pipeOf, pipelineEarly, ranBy, pipelineOf}
@@ -55,7 +54,7 @@ one-kept g h (x ∷ l) (suc i) (suc v) = one-kept g h l i v
 -- .. and of any number of them
 all-kept : (g : ℕ → Node → Node) → ((i : ℕ) (v : Node) → SameCounts (g i v) v) → (k : ℕ) (l : List Node) → Kept (upto k (λ i t. set t i (g i (getD t i noNode))) l) l
 all-kept g h k l =
-    upto-holds (λ (t : List Node). Kept t l) (λ i t. set t i (g i (getD t i noNode))) (λ i t p v. after (one-kept (g i) (h i) t i v) (p v)) k l (λ v. same (getD l v noNode))
+    upto-holds (λ (t : List Node). Kept t l) (λ i t. set t i (g i (getD t i noNode))) k (λ i t _ p v. after (one-kept (g i) (h i) t i v) (p v)) l (λ v. same (getD l v noNode))
 
 started-kept : (n initiator slot : ℕ) (l : List Node) → Kept (startedAll n initiator slot l) l
 unfolding startedAll started

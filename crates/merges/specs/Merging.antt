@@ -134,7 +134,7 @@ newInfo p = record { result = NewInfo; payload = record { held = Packet; packet 
 abbrev pub concluded : Payload → Draft → Merged
 concluded l d = either (d .news) (newInfo (d .packet)) (redundant l)
 
--- a packet of term t says nothing to a position that holds one of term u
+-- A packet of term t says nothing to a position that holds one of term u, if t is the earlier of the two.
 unfoldable pub outdated : ℕ → ℕ → Bool
 outdated t u = ltb t u
 

@@ -9,7 +9,7 @@ use lib.ListN.{length, getD, set}
 use lib.Seq.{getD-set-same, getD-set-other}
 use native.Mathlib.Omega.{arith}
 use Rattle.loops.specs.Pick.{either}
-use Rattle.loops.specs.Upto.{upto}
+use Rattle.loops.specs.Upto.{upto, upto-holds}
 use Rattle.marks.specs.Marks.{has}
 use Rattle.engines.specs.Marked.{overMarks}
 use Rattle.pipeline.specs.Pending.{noEntry, loggedOf, pushed, finalizeTx, unanimousOf, openTx, mergeVotes, mergeAbort, isJudged, judgeAt, judged, abortAt, abortAll, ownVote}
@@ -19,7 +19,6 @@ use Rattle.pipeline.specs.declared.two_pc_pipeline.TxLog.{TxLog}
 use Rattle.pipeline.specs.declared.two_pc_pipeline.NodeTwoPcState.{NodeTwoPcState}
 use Rattle.pipeline.specs.declared.two_pc_pipeline.Piggyback.{Piggyback}
 use Rattle.pipeline.specs.declared.two_pc_pipeline.Piggyback.the-variants.{Absent, Present}
-use Rattle.pipeline.proofs.Sums.{upto-holds}
 
 -- Every entry of a is still there in b, at its place, with its transaction and its outcome.
 pub record Grown (a b : TxLog) : Type 0 where
@@ -65,7 +64,7 @@ finalize-kept t o s = pick-kept (has (loggedOf (s .log)) t) s s _ (grown-same (s
 pub over-kept : (m : ℕ) (f : ℕ → NodeTwoPcState → NodeTwoPcState) → ((t : ℕ) (s : NodeTwoPcState) → Kept s (f t s)) → (s : NodeTwoPcState) → Kept s (overMarks m f s)
 unfolding overMarks
 over-kept m f h s =
-    upto-holds (λ (x : NodeTwoPcState). Kept s x) (λ i x. either (has m i) (f i x) x) (λ i x p. grown-more p (pick-kept (has m i) x (f i x) x (h i x) (grown-same (x .log)))) 64 s (grown-same (s .log))
+    upto-holds (λ (x : NodeTwoPcState). Kept s x) (λ i x. either (has m i) (f i x) x) 64 (λ i x _ p. grown-more p (pick-kept (has m i) x (f i x) x (h i x) (grown-same (x .log)))) s (grown-same (s .log))
 
 pub judged-kept : (n r : ℕ) (rounds : List ℕ) (s : NodeTwoPcState) → Kept s (judged n r rounds s)
 unfolding judged judgeAt

@@ -6,6 +6,7 @@ use lib.Dec.{eqb}
 use lib.Ieee.{Float}
 use lib.ListN.{getD, set}
 use Rattle.loops.specs.Pick.{either}
+use Rattle.loops.specs.Upto.{upto-holds}
 use Rattle.marks.specs.Marks.{has}
 use Rattle.engines.specs.Marked.{overMarks}
 use Rattle.pipeline.specs.Pending.{mergeVotes, mergeAbort, voteOf, fastOf, abortAll}
@@ -29,7 +30,6 @@ use Rattle.pipeline.specs.declared.pipeline.PipelineConf.{PipelineConf}
 use Rattle.pipeline.specs.declared.pipeline.Pipeline.{Pipeline}
 use Rattle.pipeline.specs.declared.pipeline.RoundRun.{RoundRun}
 use Rattle.pipeline.specs.declared.pipeline.RoundAnswer.{RoundAnswer}
-use Rattle.pipeline.proofs.Sums.{upto-holds}
 use Rattle.pipeline.proofs.Growth.{Grown, grown-same, grown-more, Kept, finalize-kept, judged-kept, aborts-kept, open-kept, votes-kept, abort-kept, own-kept}
 
 -- ---- a round
@@ -104,7 +104,7 @@ at-kept ws p facts rounds q i x = set-kept (x .states) i _ (process-kept ws p fa
 pub processed-kept : (ws : List ℕ) (p : Float) (facts : RoundFacts) (rounds : List ℕ) (q : RoundPacket) (parts : ℕ) (g : Processing) → AllKept (g .states) (processAll ws p facts rounds q parts g .states)
 unfolding processAll overMarks
 processed-kept ws p facts rounds q parts g =
-    upto-holds (λ (x : Processing). AllKept (g .states) (x .states)) (λ i x. either (has parts i) (processAt ws p facts rounds q i x) x) turn 64 g (λ j. grown-same (logOf (g .states) j))
+    upto-holds (λ (x : Processing). AllKept (g .states) (x .states)) (λ i x. either (has parts i) (processAt ws p facts rounds q i x) x) 64 (λ i x _. turn i x) g (λ j. grown-same (logOf (g .states) j))
   where
     pick : (b : Bool) (x y : Processing) → AllKept (g .states) (x .states) → AllKept (g .states) (y .states) → AllKept (g .states) (either b x y .states)
     pick true x y a c = a

@@ -9,7 +9,7 @@ use lib.ListN.{length, getD, set, length-set}
 use native.Mathlib.Nat.{mod-eq-of-lt, mul-add}
 use native.Mathlib.Omega.{arith}
 use Rattle.loops.specs.Pick.{either}
-use Rattle.loops.specs.Upto.{upto}
+use Rattle.loops.specs.Upto.{upto, upto-holds}
 use Rattle.loops.specs.Runs.{runs, runs-keeps}
 use Rattle.marks.specs.Marks.{has}
 use Rattle.engines.specs.Limits.{few}
@@ -58,12 +58,6 @@ kept-sums g same l i s =
       sum = kept-total g same l i ∙ s .sum;
     }
 
--- what each turn of a loop keeps
-pub upto-holds : {S : Type 0} (P : S → Type 0) (f : ℕ → S → S) → ((i : ℕ) (t : S) → P t → P (f i t)) → (n : ℕ) (s : S) → P s → P (upto n f s)
-unfolding upto
-upto-holds P f h zero s p = p
-upto-holds P f h (suc n) s p = h n (upto n f s) (upto-holds P f h n s p)
-
 both : (b : Bool) (x y v : Node) → Alike x v → Alike y v → Alike (either b x y) v
 both true x y v p q = p
 both false x y v p q = q
@@ -80,7 +74,7 @@ next-alike repeats heard v = go (v .state)
 turned-sums : {n base slot : ℕ} (m repeats received : ℕ) (l : List Node) → Sums n base slot l → Sums n base slot (turnedAll m repeats received l)
 unfolding turnedAll turnAt
 turned-sums {n} {base} {slot} m repeats received l s =
-    upto-holds (λ (t : List Node). Sums n base slot t) (turnAt repeats received) (λ i t. kept-sums (nextNode repeats (has received i)) (next-alike repeats (has received i)) t i) (few m) l s
+    upto-holds (λ (t : List Node). Sums n base slot t) (turnAt repeats received) (few m) (λ i t _. kept-sums (nextNode repeats (has received i)) (next-alike repeats (has received i)) t i) l s
 
 pub inc-is : (x : ℕ) → x < 2 ^ 32 → inc x ≡ x + 1
 inc-is x h = mod-eq-of-lt (omega arith)
@@ -128,7 +122,7 @@ start-sums {n} {base} {slot} m i repeats l s = by (ltb i 64)
     reset = upto (few m) resetAt l
 
     fresh : Sums n base slot reset
-    fresh = upto-holds (λ (t : List Node). Sums n base slot t) resetAt (λ j t. kept-sums resetRound reset-alike t j) (few m) l s
+    fresh = upto-holds (λ (t : List Node). Sums n base slot t) resetAt (few m) (λ j t _. kept-sums resetRound reset-alike t j) l s
 
     by : (b : Bool) → Sums n base slot (either b (set reset i (inState (getD reset i noNode) Flood repeats)) reset)
     by true = kept-sums (λ v. inState v Flood repeats) (λ v. record { listen = refl; flood = refl; sleep = refl }) reset i fresh

@@ -5,13 +5,13 @@ use mathlib.Core.Path.{_≡_, refl, sym, ap, _∙_}
 use lib.ListN.{length, getD, set, take, drop, replicate, take-append-drop, length-map}
 use lib.Seq.{length-take-le, drop-at}
 use native.Mathlib.Omega.{arith}
-use Rattle.loops.specs.Upto.{upto}
+use Rattle.loops.specs.Upto.{upto, upto-holds}
 use Rattle.engines.specs.Nodes.{noNode, tickedAll, ticked, total}
 use Rattle.engines.specs.declared.node.Node.{Node}
 use Rattle.engines.proofs.Counts.{total-append, ticked-map}
 use Rattle.pipeline.specs.Round.{newPipeline}
 use Rattle.pipeline.proofs.Totals.{new-sums}
-use Rattle.pipeline.proofs.Sums.{Alike, Sums, kept-sums, upto-holds, ticked-sums}
+use Rattle.pipeline.proofs.Sums.{Alike, Sums, kept-sums, ticked-sums}
 
 -- The counts of a room of n positions at a slot: n for each slot, and nothing behind the positions.
 pub record Counts (n slot : ℕ) (l : List Node) : Type 0 where
@@ -36,7 +36,7 @@ module _ (g : Node → Node) (same : (v : Node) → Alike (g v) v) where
 pub all-counts : {n slot : ℕ} (g : ℕ → Node → Node) → ((i : ℕ) (v : Node) → Alike (g i v) v) → (k : ℕ) (l : List Node) → Counts n slot l
     → Counts n slot (upto k (λ i t. set t i (g i (getD t i noNode))) l)
 all-counts {n} {slot} g same k l c =
-    upto-holds (λ (t : List Node). Counts n slot t) (λ i t. set t i (g i (getD t i noNode))) (λ i t. kept-counts (g i) (same i) t i) k l c
+    upto-holds (λ (t : List Node). Counts n slot t) (λ i t. set t i (g i (getD t i noNode))) k (λ i t _. kept-counts (g i) (same i) t i) l c
 
 -- A slot's tick: n more counts, and still nothing behind the positions.
 ticked-rest : (n : ℕ) (l : List Node) → n ≤ 64 → n ≤ length l → drop n (tickedAll n l) ≡ drop n l

@@ -6,7 +6,7 @@ use mathlib.Core.Path.{_≡_, refl, sym, _∙_}
 use lib.Dec.{ltb}
 use lib.ListN.{getD, set}
 use native.Mathlib.Omega.{arith}
-use Rattle.loops.specs.Upto.{upto}
+use Rattle.loops.specs.Upto.{upto-holds}
 use Rattle.merges.specs.Votes.{noOf}
 use Rattle.merges.specs.Merging.{Noes, mergeOf, nobody}
 use Rattle.merges.specs.Sound.{SoundHeld, ValidHeld, Grew, Grown}
@@ -96,12 +96,6 @@ set-each Q (y ∷ ls) zero x h q (suc v) = h (suc v)
 set-each Q (y ∷ ls) (suc i) x h q zero = h zero
 set-each Q (y ∷ ls) (suc i) x h q (suc v) = set-each (λ u. Q (suc u)) ls i x (λ u. h (suc u)) q v
 
--- what every turn below n keeps
-pub upto-below : {S : Type 0} (P : S → Type 0) (f : ℕ → S → S) (n : ℕ) → ((i : ℕ) (t : S) → i < n → P t → P (f i t)) → (k : ℕ) → k ≤ n → (s : S) → P s → P (upto k f s)
-unfolding upto
-upto-below P f n h zero l s p = p
-upto-below P f n h (suc k) l s p = h k (upto k f s) l (upto-below P f n h k (omega arith) s p)
-
 -- ---- a slot: each position keeps what it holds, or merges what another one held at the slot's start
 
 module _ (s : Voting) (t : ℕ) (hears : List ℕ) (held : List Payload) (size : s .n ≤ 64) (good : AllGood (noOf s) (s .n) t held) where
@@ -123,9 +117,9 @@ module _ (s : Voting) (t : ℕ) (hears : List ℕ) (held : List Payload) (size :
   heard-all : (v : ℕ) → Heard v (getD (toldAll s hears held .held) v nobody)
   unfolding toldAll toldAt
   heard-all =
-      upto-below (λ (x : Tellings). (v : ℕ) → Heard v (getD (x .held) v nobody)) (toldAt s hears held) (s .n)
-      (λ i x h p. set-each Heard (x .held) i (hearingOf s hears held i .payload) p (hearing i h))
-      (few (s .n)) (omega arith) (record { held = held; «new_info» = 0; «goal_reached» = 0; «can_sleep» = 0 })
+      upto-holds (λ (x : Tellings). (v : ℕ) → Heard v (getD (x .held) v nobody)) (toldAt s hears held) (few (s .n))
+      (λ i x h p. set-each Heard (x .held) i (hearingOf s hears held i .payload) p (hearing i (omega arith)))
+      (record { held = held; «new_info» = 0; «goal_reached» = 0; «can_sleep» = 0 })
       (λ v. record { good-now = good v; follows = λ p. grown-same (getD held v nobody) p })
 
   pub told-good : AllGood (noOf s) (s .n) t (toldAll s hears held .held)
