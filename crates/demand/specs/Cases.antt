@@ -229,23 +229,23 @@ One =
 -- ---- the table
 
 pub record MarkedCases : Type 0 where
-  -- Capture, line of 2, p = 0, proposer 0, timeout 100: the packets sent have 85 and 87 bytes; goal, end slot 3, listen 3, flood 3, sleep 0, Committed.
+  -- Two positions in a line, nobody votes no, position 0 proposes: it sends 85 bytes, then the other 87, and in the third slot both hold Committed.
   pub capture-line : LineOfTwo
-  -- Mesh of 2, T = 0, repeats 1: two slots, listen 1, flood 2, sleep 1, covered 2, stopped.
+  -- Two positions that hear each other, nothing to agree on: each floods once, both hold the packet, and the room stops.
   pub pipeline-mesh : MeshOfTwo
   -- Seed 61C8864680B583EC, term 1, p = 0.0005: position 0 votes no, its share is 0.0004; position 1 votes yes, its share is 0.0005.
   pub shares : Shares
   -- The seed one lower, any p above 0: all vote no.
   pub all-no : AllNo
-  -- Room of 1, p = 0: Committed on proposing ..
+  -- A position on its own, with an abort probability of 0, has decided as soon as it proposes ..
   pub alone-proposes : AloneProposes
-  -- .. and each round of 1 slot or more in that term, the first and those after it, ends at start + 1.
+  -- .. and every round of that term that has a slot, the first and those after it, takes just one.
   pub alone-ends : AloneEnds
-  -- Round slots 0: no tick, end is start; in capture rooms ..
+  -- A round of no slots ticks nobody and ends where it starts: in capture rooms ..
   pub capture-none : CaptureOfNoSlots
   -- .. and in pipeline rooms.
   pub pipeline-none : PipelineOfNoSlots
-  -- Empty received: Redundant.
+  -- To merge an empty text is Redundant, and what is held stays.
   pub empty-heard : EmptyHeard
   -- Loss -0.0: accepted.
   pub minus-zero : MinusZero

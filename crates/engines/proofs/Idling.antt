@@ -171,18 +171,18 @@ module _ (ws links : List ℕ) (conf : CeRound) (c : CeState) (k : ℕ) (q : Idl
   unfolding isDue
   not-due = lt-leb (c .«next_row») (c .slot) (omega (arith, q .rows))
 
-  early : (i : ℕ) → i < 64 → has (setsOf pos (tickedAll pos (c .nodes)) .listening) i ≡ true → timedOut (c .slot) (conf .«listen_timeout») (getD (tickedAll pos (c .nodes)) i noNode) ≡ false
+  early : (i : ℕ) → i < 64 → has (setsOf pos (tickedAll pos (c .nodes)) .listening) i ≡ true → timedOut (c .slot) (conf .settings .«listen_timeout») (getD (tickedAll pos (c .nodes)) i noNode) ≡ false
   unfolding timedOut
   early i h e =
       let p = listens-at pos (c .nodes) i (rw (tick-sets pos (c .nodes) (q .small .nodes)) at e) in
       let v = getD (c .nodes) i noNode in
       rw (tick-get pos (c .nodes) (q .small .nodes) i (p .0), ticked-last v)
-      (lt-leb (conf .«listen_timeout») (c .slot - v .«last_progress_slot») (omega (arith, q .waits i (p .0) .early (p .1))))
+      (lt-leb (conf .settings .«listen_timeout») (c .slot - v .«last_progress_slot») (omega (arith, q .waits i (p .0) .early (p .1))))
 
   slot-plan : planFor ws links conf (begun conf c) ≡ idlePlan (c .draw)
   unfolding begun
   slot-plan =
-      plan-idle ws (conf .«loss_rate») links (c .slot) (conf .«listen_timeout») (tickedAll pos (c .nodes)) (setsOf pos (tickedAll pos (c .nodes))) (c .draw)
+      plan-idle ws (conf .settings .«loss_rate») links (c .slot) (conf .settings .«listen_timeout») (tickedAll pos (c .nodes)) (setsOf pos (tickedAll pos (c .nodes))) (c .draw)
       (ap (λ (s : StateSets). s .flooding) (tick-sets pos (c .nodes) (q .small .nodes)) ∙ q .silent) early
 
   slot-nodes : (w : News) → w .recovering ≡ 0 → w .«new_info» ≡ 0 → w .«can_sleep» ≡ 0 → turnedAll pos (c .slot) w (tickedAll pos (c .nodes)) ≡ passedAll pos 1 (c .nodes)
@@ -242,7 +242,7 @@ module _ (conf : CeRound) where
         rows = omega (arith, q .rows);
         goal = q .goal;
         silent = ap (λ (s : StateSets). s .flooding) (pass-sets n (c .nodes) long 1) ∙ q .silent;
-        waits = λ i h. still-waits k (c .slot) (conf .«listen_timeout») (getD (c .nodes) i noNode) (getD (passedAll n 1 (c .nodes)) i noNode) (pass-get n (c .nodes) long 1 i h) (q .waits i h);
+        waits = λ i h. still-waits k (c .slot) (conf .settings .«listen_timeout») (getD (c .nodes) i noNode) (getD (passedAll n 1 (c .nodes)) i noNode) (pass-get n (c .nodes) long 1 i h) (q .waits i h);
         awake = q .awake;
       }
 

@@ -17,7 +17,7 @@ module _ (ws links : List ℕ) (conf : CeRound) where
   finished-later c =
       either-later ws (λ (s : CeState). s .draw) (c .draw) (networkGoalOf (conf .voting .n) (c .held)) (goalMet conf c) (acted ws links conf c)
       (later-same ws (c .draw))
-      (plan-later ws (conf .«loss_rate») links (c .slot) (conf .«listen_timeout») (c .nodes) (setsOf (conf .voting .n) (c .nodes)) (c .draw))
+      (plan-later ws (conf .settings .«loss_rate») links (c .slot) (conf .settings .«listen_timeout») (c .nodes) (setsOf (conf .voting .n) (c .nodes)) (c .draw))
 
   slot-later : (c : CeState) → Later ws (c .draw) (slotOf ws links conf c .draw)
   unfolding slotOf begun

@@ -70,7 +70,7 @@ applied conf c p t =
 
 abbrev pub planFor : List ℕ → List ℕ → CeRound → CeState → Plan
 planFor ws links conf c =
-    planOf ws (conf .«loss_rate») links (c .slot) (conf .«listen_timeout») (c .nodes) (setsOf (conf .voting .n) (c .nodes)) (c .draw)
+    planOf ws (conf .settings .«loss_rate») links (c .slot) (conf .settings .«listen_timeout») (c .nodes) (setsOf (conf .voting .n) (c .nodes)) (c .draw)
 
 unfoldable pub acted : List ℕ → List ℕ → CeRound → CeState → CeState
 acted ws links conf c = applied conf c (planFor ws links conf c) (toldAll (conf .voting) (planFor ws links conf c .hears) (c .held))
@@ -121,8 +121,8 @@ pub record Surveyed (ws links : List ℕ) (conf : CeRound) (k : ℕ) (c : CeStat
   pub due : r .state .draw .short ≡ false → r .due * 5 ≡ length (rowsOf ws links conf k c)
   pub small : r .due ≤ k
 
--- 15: start and full length pass slot 2^32 - 1. 16: run to its own end, the round draws more words than remain. 17: that run has more rows due than the
--- unused part holds whole, or the used count is beyond the buffer. The lowest of these, and 0 for none.
+-- 15: start and full length pass slot 2^32 - 1. 16: words run out before the round's own end. 17: its rows need more than is left of the buffer, or the rows
+-- said to be used are more than it has. The lowest of these, and 0 for none.
 unfoldable pub refusalOf : List ℕ → List ℕ → ℕ → ℕ → CeRound → CeState → ℕ → ℕ
 refusalOf ws links len used conf s k =
     either (ltb 4294967295 (s .slot + k)) 15

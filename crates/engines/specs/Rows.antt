@@ -46,6 +46,6 @@ putRow part r = either (ltb (length part) 5) part (sets part 0 (cells r))
 unfoldable pub putBehind : List ℕ → ℕ → Row → List ℕ
 putBehind rows used r = either (leb (used * 5 + 5) (length rows)) (sets rows (used * 5) (cells r)) rows
 
--- Refusal 17: more rows used than the buffer has numbers for, or more due than the unused part holds whole.
+-- Refusal 17: more rows used than the buffer has numbers for, or too few numbers behind them for the rows that are due.
 unfoldable pub rowsRefused : ℕ → ℕ → ℕ → Bool
 rowsRefused numbers used due = ltb numbers (used * 5) || ltb ((numbers - used * 5) / 5) due

@@ -71,7 +71,7 @@ pub record Idle (conf : CeRound) (k : ℕ) (c : CeState) : Type 0 where
   pub rows : c .slot + k ≤ c .«next_row»
   pub goal : networkGoalOf (conf .voting .n) (c .held) ≡ false
   pub silent : setsOf (conf .voting .n) (c .nodes) .flooding ≡ 0
-  pub waits : (i : ℕ) → i < few (conf .voting .n) → Waits (c .slot) (conf .«listen_timeout») k (getD (c .nodes) i noNode)
+  pub waits : (i : ℕ) → i < few (conf .voting .n) → Waits (c .slot) (conf .settings .«listen_timeout») k (getD (c .nodes) i noNode)
   pub awake : (i : ℕ) → i < few (conf .voting .n) → canSleepOf (conf .voting .n) (getD (c .held) i nobody) ≡ false
 
 -- Such slots raise counts and the slot.

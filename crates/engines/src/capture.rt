@@ -15,6 +15,7 @@ use super::node;
 use super::node::Node;
 use super::plan;
 use super::rows;
+use super::settings::Settings;
 use super::turns;
 use super::turns::News;
 use super::words::Draw;
@@ -22,11 +23,11 @@ use merges::merging;
 use merges::merging::Payload;
 use merges::votes::Voting;
 
-// What a round goes by and never changes. The links stand beside it.
+// What a round goes by and never changes: the settings, of which loss and timeout are read here; what merges ask for of them; and the interval of the
+// rows. The links stand beside it.
 pub struct CeRound {
+    pub settings: Settings,
     pub voting: Voting,
-    pub listen_timeout: u64,
-    pub loss_rate: f64,
     pub interval: u64,
 }
 
@@ -81,8 +82,8 @@ fn act(words: &[u64], links: &[u64; 64], conf: CeRound, c: CeState) -> CeState
         nodes,
         s,
         c.slot,
-        conf.listen_timeout,
-        conf.loss_rate,
+        conf.settings.listen_timeout,
+        conf.settings.loss_rate,
         draw,
     );
     let hears = p.hears;

@@ -92,7 +92,7 @@ pub(crate) fn idle_slots(conf: CeRound, c: CeState, left: u64) -> u64
         return 0;
     }
     let most = limits::smaller(left, c.next_row - c.slot);
-    let wait = shortest_wait(nodes, voting.n, c.slot, conf.listen_timeout, most);
+    let wait = shortest_wait(nodes, voting.n, c.slot, conf.settings.listen_timeout, most);
     let held = c.held;
     if merging::network_goal_reached(held, voting.n) {
         return 0;

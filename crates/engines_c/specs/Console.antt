@@ -25,9 +25,23 @@ askedOf n initiator = either (eqb n 0) 2 (either (ltb 64 n) 2 (either (leb n ini
 unfoldable pub linksOf : List ℕ → List ℕ
 linksOf links = tabulate 64 (λ i. getD links i 0)
 
-abbrev pub confOf : ℕ → Float → ℕ → ℕ → Float → ℕ → CeRound
-confOf n p seed timeout loss interval =
-    record { voting = record { n = n; «abort_probability» = p; seed = seed }; «listen_timeout» = timeout; «loss_rate» = loss; interval = interval }
+-- What the numbers of a call say of a round. A capture round reads no repeats.
+abbrev pub confOf : ℕ → Float → ℕ → ℕ → Float → ℕ → ℕ → CeRound
+confOf n p seed timeout loss interval slots =
+    record {
+      settings =
+          record {
+            «loss_rate» = loss;
+            «abort_probability» = p;
+            seed = seed;
+            «listen_timeout» = timeout;
+            «flood_repeats» = 0;
+            «round_slots» = slots;
+            «slots_given» = true;
+          };
+      voting = record { n = n; «abort_probability» = p; seed = seed };
+      interval = interval;
+    }
 
 -- The numbers of a state: slot, next row slot, bytes sent, rows used, cursor, whether the goal was met; from 8 on the counts of the room, from 16 on
 -- the nodes, from 528 on what positions hold.

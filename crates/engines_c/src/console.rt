@@ -11,6 +11,7 @@ use engines::capture;
 use engines::capture::CeAnswer;
 use engines::capture::CeRound;
 use engines::capture::CeState;
+use engines::settings::Settings;
 use engines::words::Draw;
 use merges::votes::Voting;
 
@@ -111,9 +112,9 @@ pub extern "C" fn ce_round(
     initiator: usize,
     slots: u64,
 ) -> u64
-    ensures { λ r. ⌜ r ≡ first (askedOf n initiator) (toldOf (now (state .entry)) (now (words .entry)) (now (links .entry)) (length (now (rows .entry))) (confOf n «abort_probability» seed «listen_timeout» «loss_rate» interval) initiator slots .refusal) ⌝ }
-    ensures { λ r. ⌜ now (state .exit) ≡ unless r (putState (toldOf (now (state .entry)) (now (words .entry)) (now (links .entry)) (length (now (rows .entry))) (confOf n «abort_probability» seed «listen_timeout» «loss_rate» interval) initiator slots) (now (state .entry))) (now (state .entry)) ⌝ }
-    ensures { λ _. ⌜ now (rows .exit) ≡ unless (askedOf n initiator) (rowsLeft (now (state .entry)) (now (words .entry)) (now (links .entry)) (now (rows .entry)) (confOf n «abort_probability» seed «listen_timeout» «loss_rate» interval) initiator slots) (now (rows .entry)) ⌝ }
+    ensures { λ r. ⌜ r ≡ first (askedOf n initiator) (toldOf (now (state .entry)) (now (words .entry)) (now (links .entry)) (length (now (rows .entry))) (confOf n «abort_probability» seed «listen_timeout» «loss_rate» interval slots) initiator slots .refusal) ⌝ }
+    ensures { λ r. ⌜ now (state .exit) ≡ unless r (putState (toldOf (now (state .entry)) (now (words .entry)) (now (links .entry)) (length (now (rows .entry))) (confOf n «abort_probability» seed «listen_timeout» «loss_rate» interval slots) initiator slots) (now (state .entry))) (now (state .entry)) ⌝ }
+    ensures { λ _. ⌜ now (rows .exit) ≡ unless (askedOf n initiator) (rowsLeft (now (state .entry)) (now (words .entry)) (now (links .entry)) (now (rows .entry)) (confOf n «abort_probability» seed «listen_timeout» «loss_rate» interval slots) initiator slots) (now (rows .entry)) ⌝ }
 {
     let refusal = asked(n, initiator);
     if refusal != 0 {
@@ -124,10 +125,18 @@ pub extern "C" fn ce_round(
         abort_probability,
         seed,
     };
-    let conf = CeRound {
-        voting,
-        listen_timeout,
+    let settings = Settings {
         loss_rate,
+        abort_probability,
+        seed,
+        listen_timeout,
+        flood_repeats: 0,
+        round_slots: slots,
+        slots_given: true,
+    };
+    let conf = CeRound {
+        settings,
+        voting,
         interval,
     };
     let c = state_of(state);

@@ -3,3 +3,4 @@ pub mod Frames
 pub mod Floats
 pub mod Playing
 pub mod Texts
+pub mod Lasting

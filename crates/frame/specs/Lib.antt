@@ -2,3 +2,4 @@ pub mod Lines
 pub mod Play
 pub mod Listing
 pub mod Cases
+pub mod Stopping

@@ -71,7 +71,7 @@ abbrev pub startWith : Room → Round
 startWith r = record { refusal = 0; cursor = 0; used = 0; room = r }
 
 -- A capture room takes its proposals. A pipeline room runs until it has stopped: the round of number T + 1001 stops it if none before it does, so
--- that T + 1002 rounds are always enough.
+-- that T + 1002 rounds are always enough (Stopping.antt).
 unfoldable pub playOf : Frame → List ℕ → Room → Round
 playOf f ws r =
     either (eqb (f .kind) 1)

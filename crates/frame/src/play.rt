@@ -62,7 +62,7 @@ fn settings_of(f: Frame) -> Settings
         listen_timeout: f.span,
         flood_repeats: f.span as u32,
         round_slots: f.slots,
-        slots_given: f.slots != 4294967295,
+        slots_given: f.slots != Room::LAST_SLOT,
     }
 }
 
@@ -78,8 +78,8 @@ fn open_room(f: Frame, links: &[u64]) -> Opening
         s,
         f.transactions as usize,
         0,
-        4294967295,
-        4294967295,
+        Room::LAST_SLOT,
+        Room::LAST_SLOT,
     )
 }
 

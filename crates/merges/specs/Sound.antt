@@ -79,7 +79,7 @@ abbrev pub MergesKeepTerm : Type 0
 MergesKeepTerm = (nay : Noes) (n v : ℕ) (l r : Payload) → l .held ≡ Packet → r .held ≡ Packet → r .packet .term ≡ l .packet .term
     → mergeOf nay n v l r .payload .packet .term ≡ l .packet .term
 
--- whoever holds nothing takes the term of the packet that it hears, and its own mark
+-- whoever holds nothing adopts the packet that it hears, and so has its term (of its own mark `OwnMark` speaks)
 abbrev pub EmptyAdopts : Type 0
 EmptyAdopts = (nay : Noes) (n v : ℕ) (l r : Payload) → l .held ≡ Empty → r .held ≡ Packet
     → (mergeOf nay n v l r ≡ newInfo (adoptedOf nay n v (r .packet))) × (adoptedOf nay n v (r .packet) .term ≡ r .packet .term)

@@ -64,12 +64,13 @@ module _ (p : Pipeline) where
       ∷ p .round
       ∷ []
 
--- mesh of 2, T = 0, repeats 1: two slots, listen 1, flood 2, sleep 1, covered 2, 176 bytes twice, stopped in round 0
+-- Two positions that hear each other, nothing to agree on: each sends the 176 bytes once, and round 0 stops the room after its second slot.
 pub mesh-of-two : (shown (runRound [] mesh2 newPipeline (startDraw 0) .pipe) ≡ 2 ∷ 1 ∷ 2 ∷ 1 ∷ 2 ∷ 352 ∷ 0 ∷ []) × (runRound [] mesh2 newPipeline (startDraw 0) .pipe .stop ≡ true)
 unfolding resetRound ticked tickAt tickedAll listens floods sleeps setsOf isDue nextRow rowsRefused nextOf unitOf lostOf overMarks withMark framed hearAt hearersOf sendAt floodPlan afterFlood afterListen nextNode turnAt turnedAll nobodyFloods sentAfter dueAfter floodSlot resetAt resetAll floodStart floodRound joinMarks commonMarks withoutMark loggedAt loggedOf outcomeAt outcomeOf pushed finalizeTx unanimousOf openTx votesAt mergeVotes mergeAbort gapAt gapOf nackOf voteOf isJudged judgeAt judged fastOf abortAll ownVote dataOf packetOf samePacket recordTx isFresh beginTx recordDue recordJudged abortOf knownVotes roundPacket prepareRound isNew hearNew mergeRound recordAborts takeUp isAnswer answerNack processOne partsOf processAt processAll shorterAt shortestLog progressAt progressAll stopsAt deliverAll isCovered coverAt coveredOf initiatorOf preparing floodConf floodFrom closeRound floodOf runRound newPipeline upto downto go marks allOf countOf marksOf pipelineText bitmapText dataText limits decimal decimalF listText itemsText eq lt div ofInt round units odd span climb size ofBits ofFields
 mesh-of-two = (refl, refl)
 
--- Line of 3, T = 1, repeats 1, round slots 1: position 1 is flooding at the end and takes no part.
+-- Three positions in a line, and a round cut off after its first slot: the one in the middle has just begun to flood, so it neither holds the packet nor knows of
+-- the transaction.
 abbrev pub line3 : PipelineConf
 line3 = record { n = 3; links = 2 ∷ 5 ∷ 2 ∷ replicate 61 0; settings = plain; txs = 1; interval = 4294967295; bound = 4294967295; length = 1 }
 

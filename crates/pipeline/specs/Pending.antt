@@ -154,6 +154,6 @@ abortAt t s = finalizeTx t false s
 unfoldable pub abortAll : ℕ → NodeTwoPcState → NodeTwoPcState
 abortAll fast s = overMarks fast abortAt s
 
--- A position that has not aborted the packet's transaction gives its own yes, to all that is pending up to it.
+-- A position that has the packet's transaction pending, and knows of no abort of it, gives its own yes, to all that is pending up to it.
 unfoldable pub ownVote : ℕ → ℕ → NodeTwoPcState → NodeTwoPcState
 ownVote i top s = either (has (s .pending) top && not (has (s .aborts) top)) (mergeVotes top (withMark 0 i) s) s

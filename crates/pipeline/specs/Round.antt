@@ -89,10 +89,11 @@ coveredOf q n holding ps = upto (few n) (coverAt q holding ps) 0
 
 -- ---- the parts of a round
 
--- The initiators take turns.
+-- what a round's steps are told of it
 abbrev pub factsOf : PipelineConf → Pipeline → ℕ → RoundFacts
 factsOf conf p slot = record { n = conf .n; round = p .round; slot = slot }
 
+-- The initiators take turns.
 unfoldable pub initiatorOf : PipelineConf → Pipeline → ℕ
 initiatorOf conf p = p .round % conf .n
 
@@ -219,7 +220,7 @@ earlyOf n bound len slot stop =
 abbrev pub earlyRefusal : PipelineConf → Pipeline → ℕ
 earlyRefusal conf p = earlyOf (conf .n) (conf .bound) (conf .length) (p .slot) (p .stop)
 
--- 16: the round, run to its own end, drew more words than there are. 17: its rows do not fit.
+-- 16: some draw of the run found no word. 17: its rows do not fit.
 unfoldable pub lateOf : ℕ → ℕ → Bool → ℕ → ℕ
 lateOf numbers used short due = either short 16 (either (rowsRefused numbers used due) 17 0)
 

@@ -4,3 +4,5 @@ pub mod Holding
 pub mod Moments
 pub mod Calling
 pub mod Flooding
+pub mod Refusing
+pub mod Spending

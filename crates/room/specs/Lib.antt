@@ -1,3 +1,4 @@
 pub mod Rooms
 pub mod Readings
 pub mod Slots
+pub mod Refused

@@ -1,5 +1,5 @@
--- The readings of a room, by document 01: what each gives, and its refusal where there is no such position (2, 8) or the room is of the other kind (11).
--- Assumes nothing: these are definitions.
+-- The readings of a room, by document 01: what each gives, and its refusal: where there is no such position (2, 8), the room is of the other kind (11), nobody has proposed (12,
+-- the initiator), or a text cannot be written (9, 10, as the writer of packets says). Assumes nothing: these are definitions.
 use Prim.Native.Nat.{ℕ, _%_}
 use mathlib.Core.Bool.{Bool, true, false, not, _&&_}
 use mathlib.Core.List.{List}
@@ -111,7 +111,8 @@ logEntryOf r v k =
     let j = ofPipeline r v in
     either (eqb j 0) (entryOf (stateAt r v .log) k) (record { refusal = j; there = false; tx = 0; committed = false })
 
--- The round of a transaction's start is the same for all who know of it, and so is its data.
+-- What is held of a transaction for a position. `start` is the room's, whether or not the position has heard of it, since it is the same for all who have, as the data is. An
+-- abort and votes stay once the transaction is logged, where the Rust drops its entry: `pending` says whether there is one.
 unfoldable pub pendingIn : Rounds → NodeTwoPcState → ℕ → PendingReading
 pendingIn x s t =
     record {

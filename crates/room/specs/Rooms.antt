@@ -1,6 +1,6 @@
--- Rooms, by document 01: opening and calls, with their refusals. A call of a room whose numbers are any is refused with 2 if it has not 1 to 64 positions.
+-- Rooms, by document 01: opening, proposals and rounds, with their refusals. These calls of a room whose numbers are any are refused with 2 if it has not 1 to 64 positions.
 -- Assumes nothing: these are definitions.
-use Prim.Native.Nat.{ℕ, _+_, _%_, _^_}
+use Prim.Native.Nat.{ℕ, _+_, _-_, _%_, _^_}
 use mathlib.Core.Bool.{Bool, true, false, not, _||_, _&&_}
 use mathlib.Core.List.{List, []}
 use lib.Dec.{eqb, ltb, leb}
@@ -33,6 +33,7 @@ use Rattle.pipeline.specs.Round.{newPipeline, roundAnswer, roundBuffer}
 use Rattle.pipeline.specs.declared.pipeline.PipelineConf.{PipelineConf}
 use Rattle.pipeline.specs.declared.pipeline.Pipeline.{Pipeline}
 use Rattle.pipeline.specs.declared.pipeline.RoundAnswer.{RoundAnswer}
+use Rattle.room.specs.declared.room.Limits.{Limits}
 use Rattle.room.specs.declared.room.RoomKind.{RoomKind}
 use Rattle.room.specs.declared.room.RoomKind.the-variants as kinds
 use Rattle.room.specs.declared.room.RoomConf.{RoomConf}
@@ -42,6 +43,10 @@ use Rattle.room.specs.declared.room.Room.{Room}
 use Rattle.room.specs.declared.room.Opening.{Opening}
 use Rattle.room.specs.declared.room.Proposal.{Proposal}
 use Rattle.room.specs.declared.room.Round.{Round}
+
+-- "Kept from the repository, and written anew": 64 positions, 64 transactions, the last slot, and the lengths of a packet's bitmap and data.
+abbrev pub roomLimits : Limits
+roomLimits = record { positions = 64; transactions = 64; «last_slot» = 2 ^ 32 - 1; «bitmap_entries» = 64; «data_bytes» = 32 }
 
 abbrev pub isPipeline : RoomKind → Bool
 isPipeline kinds.Pipeline = true
@@ -184,9 +189,8 @@ proposeOf r v =
 abbrev pub ceConf : RoomConf → CeRound
 ceConf c =
     record {
+      settings = c .settings;
       voting = votingIn c;
-      «listen_timeout» = c .settings .«listen_timeout»;
-      «loss_rate» = c .settings .«loss_rate»;
       interval = c .interval;
     }
 
@@ -203,7 +207,7 @@ ceState r =
       ended = false;
     }
 
--- the first round of a term that reaches the goal raises the progress of every position by one
+-- the progress of a position, one higher: so it is for everybody once in a term, at the end of the first round that meets the goal
 unfoldable pub raised : Node → Node
 raised v =
     record {

@@ -1,5 +1,5 @@
-// The readings of a room: what the Rust's state has, each with its refusal where there is no such position, or where the room is of the
-// other kind. A reading changes no room.
+// The readings of a room: what the Rust's state has, each with its refusal: there is no such position, the room is of the other kind, nobody has
+// proposed, or a text does not fit. A reading changes no room.
 ghost use mathlib.Core.Path.{_≡_};
 ghost use Prim.Native.Nat.{_<_};
 ghost use lib.Dec.{eqb};
@@ -59,8 +59,8 @@ pub struct EntryReading {
     pub committed: bool,
 }
 
-// What a position knows of a transaction: whether it is pending, whether an abort is known of it, who has said yes, the round of its start, and its data if it is
-// pending.
+// What is held of a transaction for a position: whether it is pending, whether an abort is known of it, who has said yes, the round of its start, and its data if it is
+// pending. If it is not, the round is the room's all the same, and abort and votes are as they were last.
 pub struct PendingReading {
     pub refusal: u64,
     pub pending: bool,
@@ -428,7 +428,7 @@ fn pending_in(x: Rounds, s: NodeTwoPcState, t: usize) -> PendingReading
     }
 }
 
-// What position v knows of transaction t.
+// What is held of transaction t for position v.
 pub fn pending(r: Room, v: usize, t: usize) -> PendingReading
     ensures { λ q. ⌜ q ≡ pendingOf r v t ⌝ }
 {

@@ -8,7 +8,7 @@ ghost use lib.ListN.{length, replicate};
 ghost use Rattle.loops.specs.Pick.{either};
 ghost use Rattle.graph.specs.Links.{isSize};
 ghost use Rattle.graph.specs.Paths.{lengthOf};
-ghost use Rattle.room.specs.Rooms.{isPipeline, sizeOf, votingIn, openRefusal, roundLength, emptyPayload, newTerms, roundsOf, newRoom, confOf, noConf, openOf, proposeRefusal, proposedIn, proposeOf, ceConf, ceState, raised, raisedAll, afterCapture, captureRefusal, refusedRound, ceAnswer, capturedBy, captureOf, captureBuffer, pipeConf, pipeOf, withPipe, pipelineRefusal, pipeAnswer, ranBy, pipelineOf, pipelineBuffer};
+ghost use Rattle.room.specs.Rooms.{roomLimits, isPipeline, sizeOf, votingIn, openRefusal, roundLength, emptyPayload, newTerms, roundsOf, newRoom, confOf, noConf, openOf, proposeRefusal, proposedIn, proposeOf, ceConf, ceState, raised, raisedAll, afterCapture, captureRefusal, refusedRound, ceAnswer, capturedBy, captureOf, captureBuffer, pipeConf, pipeOf, withPipe, pipelineRefusal, pipeAnswer, ranBy, pipelineOf, pipelineBuffer};
 use engines::capture;
 use engines::capture::CeAnswer;
 use engines::capture::CeRound;
@@ -90,7 +90,8 @@ pub struct Room {
     pub rounds: Rounds,
 }
 
-// The room opened; if refused, one of no positions, which refuses every call.
+// The room opened; if refused, one of no positions: a proposal, a round, the initiator, the outcome and what is read of a position are 2 there,
+// and the other readings show a room as opened.
 pub struct Opening {
     pub refusal: u64,
     pub room: Room,
@@ -110,6 +111,15 @@ pub struct Round {
     pub room: Room,
 }
 
+// What a room never exceeds.
+pub struct Limits {
+    pub positions: usize,
+    pub transactions: usize,
+    pub last_slot: u64,
+    pub bitmap_entries: usize,
+    pub data_bytes: usize,
+}
+
 impl Room {
     pub const POSITIONS: usize = 64;
 
@@ -120,6 +130,19 @@ impl Room {
     pub const BITMAP: usize = 64;
 
     pub const DATA: usize = 32;
+
+    // All of them at once, for who sizes buffers by them.
+    pub fn limits() -> Limits
+        ensures { λ r. ⌜ r ≡ roomLimits ⌝ }
+    {
+        Limits {
+            positions: Room::POSITIONS,
+            transactions: Room::TRANSACTIONS,
+            last_slot: Room::LAST_SLOT,
+            bitmap_entries: Room::BITMAP,
+            data_bytes: Room::DATA,
+        }
+    }
 }
 
 // ---- opening
@@ -342,10 +365,10 @@ fn propose_in(c: RoomConf, t: Terms, v: usize) -> Terms
 fn ce_conf(c: RoomConf) -> CeRound
     ensures { λ r. ⌜ r ≡ ceConf c ⌝ }
 {
+    let settings = c.settings;
     CeRound {
+        settings,
         voting: voting_in(c),
-        listen_timeout: c.settings.listen_timeout,
-        loss_rate: c.settings.loss_rate,
         interval: c.interval,
     }
 }

@@ -6,10 +6,11 @@ use Rattle.planner.proofs.feed.Statement.{statement}
 use Rattle.planner.proofs.feed.Tie as tie
 
 abbrev Inv-loop : tie.InvT-loop
-Inv-loop line₀ n chunk p₀ i₀ line p i = (length line ≡ length line₀) × ((p .count ≤ length line₀) × (i ≤ length chunk))
+Inv-loop line₀ out₀ n chunk p₀ i₀ line out p i =
+    (length line ≡ length line₀) × ((length out ≡ length out₀) × ((p .count ≤ length line₀) × ((p .used ≤ length out₀) × (i ≤ length chunk))))
 
 abbrev μ-loop : tie.MeasureT-loop
-μ-loop line₀ n chunk p₀ i₀ line p i = length chunk - i
+μ-loop line₀ out₀ n chunk p₀ i₀ line out p i = length chunk - i
 
 pub feed-spec : {M : Type 1} → statement M
 feed-spec =
@@ -20,6 +21,7 @@ feed-spec =
     (λ c. search needs)
     (λ c. search needs)
     (λ c κs. search needs)
+    (λ c. search needs)
     (λ c. search needs)
     (λ c. search needs)
     (λ c. search needs)
