@@ -1,55 +1,51 @@
 -- A stretch of a capture round in which nobody acts: each slot of it is `idled`, and so are all of them together. Assumes nothing.
 use Prim.Native.Nat.{ℕ, zero, suc, _+_, _-_, _%_, _^_, _≤_, _<_}
 use mathlib.Core.Bool.{Bool, true, false, true≢false, _&&_}
-use mathlib.Core.List.{List, [], _++_}
+use mathlib.Core.List.{List, []}
 use mathlib.Core.Path.{_≡_, refl, sym, ap, _∙_}
-use native.Mathlib.Nat.{mod-eq-of-lt}
 use native.Mathlib.Omega.{arith}
-use lib.Dec.{ltb, leb}
+use lib.Dec.{ltb}
 use lib.Ieee.{Float}
 use lib.ListN.{length, getD, set, replicate, getD-replicate}
 use lib.Seq.{set-getD}
 use borrow.Author.Tests.{ltb-true, lt-ltb, lt-leb}
 use Rattle.loops.specs.Pick.{either}
-use Rattle.loops.specs.Upto.{upto, upto-holds, upto-same}
+use Rattle.loops.specs.Upto.{upto-holds, upto-same}
 use Rattle.loops.specs.Downto.{downto}
 use Rattle.loops.specs.Each.{each}
-use Rattle.loops.specs.Runs.{go, runs, runs-turn, told-turn}
+use Rattle.loops.specs.Runs.{go, runs-turn, told-turn}
 use Rattle.loops.specs.Leaps.{Leaps, runs-leap, told-leap}
 use Rattle.marks.specs.Marks.{has, countOf}
 use Rattle.marks.specs.Laws.{has-none}
 use Rattle.marks.specs.Sets.{has-marks, and-true}
 use Rattle.merges.specs.Votes.{noOf}
-use Rattle.merges.specs.Merging.{mergeOf, redundant, nobody, canSleepOf, networkGoalOf}
+use Rattle.merges.specs.Merging.{mergeOf, redundant, nobody, canSleepOf}
 use Rattle.merges.specs.declared.votes.Voting.{Voting}
 use Rattle.merges.specs.declared.merging.Payload.{Payload}
 use Rattle.merges.specs.declared.merging.Merged.{Merged}
 use Rattle.engines.specs.Limits.{few}
-use Rattle.engines.specs.Marked.{overMarks}
-use Rattle.engines.specs.Words.{Order, shuffled}
+use Rattle.engines.specs.Words.{shuffled}
 use Rattle.engines.specs.Nodes.{noNode, isListen, isFlood, listens, floods, setsOf, ticked, tickedAll}
 use Rattle.engines.specs.Rows.{isDue, nextRow}
-use Rattle.engines.specs.Plan.{timedOut, tossed1, tossAt, coinsOf, noteAt, sendersOf, unheard, firstKept, heardFrom, captureOf, Captured, whom, tallied, captureAt, noneYet, capturesOf, planAfter, planOf}
+use Rattle.engines.specs.Plan.{timedOut, tossed1, tossAt, coinsOf, noteAt, sendersOf, unheard, firstKept, heardFrom, captureOf, whom, tallied, captureAt, noneYet, capturesOf, planAfter, planOf}
 use Rattle.engines.specs.Turns.{nextState, turned, turnOf, turnAt, turnedAll, countedSlot}
 use Rattle.engines.specs.Ce.{sentAt, sentOf, hearingOf, toldAt, toldAll}
-use Rattle.engines.specs.Capture.{begun, goalMet, newsOf, applied, planFor, acted, finished, slotOf, over, rowsDue, rowsOf}
-use Rattle.engines.specs.Stretch.{add64, passed, passedAll, Waits, Small, Idle, idled, Stepped}
+use Rattle.engines.specs.Capture.{begun, goalMet, newsOf, applied, planFor, acted, finished, slotOf, over, rowsDue}
+use Rattle.engines.specs.Stretch.{add64, passed, passedAll, Waits, Idle, idled, Stepped}
 use Rattle.engines.specs.declared.words.Draw.{Draw}
 use Rattle.engines.specs.declared.node.Node.{Node}
 use Rattle.engines.specs.declared.node.StateSets.{StateSets}
 use Rattle.engines.specs.declared.node.NodeState.{NodeState}
 use Rattle.engines.specs.declared.node.NodeState.the-variants.{Listen, Flood, Sleep}
-use Rattle.engines.specs.declared.plan.Coins.{Coins}
 use Rattle.engines.specs.declared.plan.Plan.{Plan}
 use Rattle.engines.specs.declared.turns.News.{News}
 use Rattle.engines.specs.declared.metrics.MetricsCollector.{MetricsCollector}
 use Rattle.engines.specs.declared.ce.Tellings.{Tellings}
 use Rattle.engines.specs.declared.capture.CeRound.{CeRound}
 use Rattle.engines.specs.declared.capture.CeState.{CeState}
-use Rattle.engines.specs.declared.capture.CeStep.{CeStep}
 use Rattle.engines.proofs.Marking.{over-none, over-fixed}
 use Rattle.engines.proofs.Recording.{due-no}
-use Rattle.engines.proofs.Stretches.{add-both, pass-both, pass-get, pass-sets, pass-length, tick-sets, tick-get, turn-passes, passed-state, ticked-state}
+use Rattle.engines.proofs.Stretches.{add-both, pass-both, pass-get, pass-sets, pass-length, tick-sets, tick-get, turn-passes, passed-state}
 
 -- ---- its plan
 

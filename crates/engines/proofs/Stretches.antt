@@ -1,19 +1,16 @@
 -- Several slots at once: what a slot is in which no state changes, and that such slots add up. Assumes nothing.
-use Prim.Native.Nat.{ℕ, suc, _+_, _-_, _*_, _%_, _^_, _≤_, _<_}
-use mathlib.Core.Bool.{Bool}
+use Prim.Native.Nat.{ℕ, _+_, _-_, _≤_, _<_}
 use mathlib.Core.List.{List}
-use mathlib.Core.Path.{_≡_, refl, sym, ap, _∙_}
+use mathlib.Core.Path.{_≡_, refl, ap, _∙_}
 use lib.ListN.{length, getD}
 use native.Mathlib.Omega.{arith}
 use Rattle.loops.specs.Upto.{upto}
 use Rattle.loops.specs.Each.{each, each-twice, each-get, each-length}
-use Rattle.marks.specs.Marks.{marks}
 use Rattle.marks.specs.Sets.{marks-ext}
 use Rattle.engines.specs.Limits.{few}
-use Rattle.engines.specs.Nodes.{noNode, counted, isListen, isFlood, isSleep, listens, floods, sleeps, setsOf, ticked, tickedIn, tickAt, tickedAll}
-use Rattle.engines.specs.Stretch.{add64, flooded, passedIn, passed, passedAll}
+use Rattle.engines.specs.Nodes.{noNode, isListen, isFlood, isSleep, listens, floods, sleeps, setsOf, ticked, tickedIn, tickAt, tickedAll}
+use Rattle.engines.specs.Stretch.{add64, passedIn, passed, passedAll}
 use Rattle.engines.specs.declared.node.Node.{Node}
-use Rattle.engines.specs.declared.node.StateSets.{StateSets}
 use Rattle.engines.specs.declared.node.NodeState.{NodeState}
 use Rattle.engines.specs.declared.node.NodeState.the-variants.{Listen, Flood, Sleep}
 
