@@ -12,7 +12,7 @@ use native.Mathlib.Omega.{arith}
 use Rattle.loops.specs.Runs.{go, tell, told-stop}
 use Rattle.marks.specs.Marks.{marks, allOf}
 use Rattle.merges.specs.Votes.{noOf, add64}
-use Rattle.merges.specs.Merging.{Noes, settled, onlyOf, nobody, standingBy, rankOf, allHold, networkGoalOf, outcomeOf, proposalOf, adoptedOf, ensureOf, filledOf, voicedOf, acknowledgedOf, markedOf, settledOf, unanimousOf, decidedOf}
+use Rattle.merges.specs.Merging.{Noes, settled, onlyOf, noPayload, standingBy, rankOf, allHold, networkGoalOf, outcomeOf, proposalOf, adoptedOf, ensureOf, filledOf, voicedOf, acknowledgedOf, markedOf, settledOf, unanimousOf, decidedOf}
 use Rattle.merges.specs.declared.votes.Voting.{Voting}
 use Rattle.packets.specs.declared.TwoPcPhase.the-variants.{Committed}
 use Rattle.packets.specs.declared.CeTwoPcPacket.{CeTwoPcPacket}
@@ -64,7 +64,7 @@ module _ {S : Type 0} (stop : S → Bool) (step : S → S) where
 -- ---- a room of 1
 
 -- a goal for one position
-goal-alone : (n : ℕ) (ls : List Payload) → n ≡ 1 → getD ls 0 nobody .held ≡ Packet → getD ls 0 nobody .packet .phase ≡ Committed → networkGoalOf n ls ≡ true
+goal-alone : (n : ℕ) (ls : List Payload) → n ≡ 1 → getD ls 0 noPayload .held ≡ Packet → getD ls 0 noPayload .packet .phase ≡ Committed → networkGoalOf n ls ≡ true
 unfolding networkGoalOf allHold allOf standingBy rankOf
 goal-alone n ls e h f = rw (e, h, f)
 
@@ -159,7 +159,7 @@ proposal-alone nay t e =
     (λ f. absurd (false≢true (sym e ∙ f)))
     (λ f. refl)
 
-outcome-alone : (ls : List Payload) → getD ls 0 nobody .held ≡ Packet → getD ls 0 nobody .packet .phase ≡ Committed → outcomeOf 1 ls ≡ outcome.Committed
+outcome-alone : (ls : List Payload) → getD ls 0 noPayload .held ≡ Packet → getD ls 0 noPayload .packet .phase ≡ Committed → outcomeOf 1 ls ≡ outcome.Committed
 unfolding outcomeOf allHold allOf standingBy rankOf
 outcome-alone ls h f = rw (h, f)
 

@@ -8,7 +8,7 @@ use native.Mathlib.Omega.{arith}
 use Rattle.loops.specs.Upto.{upto, upto-holds}
 use Rattle.loops.specs.Runs.{go, tell}
 use Rattle.merges.proofs.Safety.{either-cases}
-use Rattle.engines.specs.Limits.{few}
+use Rattle.engines.specs.Limits.{atMost64}
 use Rattle.engines.specs.Nodes.{noNode, resetRound}
 use Rattle.engines.specs.Turns.{started, startedAll}
 use Rattle.engines.specs.Capture.{startOf, afterRound}
@@ -58,7 +58,7 @@ all-kept g h k l =
 
 started-kept : (n initiator slot : ℕ) (l : List Node) → Kept (startedAll n initiator slot l) l
 unfolding startedAll started
-started-kept n initiator slot l = all-kept (started initiator slot) (λ i v. record { listen = refl; flood = refl; sleep = refl }) (few n) l
+started-kept n initiator slot l = all-kept (started initiator slot) (λ i v. record { listen = refl; flood = refl; sleep = refl }) (atMost64 n) l
 
 -- ---- capture rounds
 
@@ -91,7 +91,7 @@ record Idle (p q : Pipeline) : Type 0 where
 start-kept : (m i repeats : ℕ) (l : List Node) → Kept (floodStart m i repeats l) l
 unfolding floodStart resetAll resetAt resetRound
 start-kept m i repeats l =
-    let reset = all-kept (λ j. resetRound) (λ j v. record { listen = refl; flood = refl; sleep = refl }) (few m) l in
+    let reset = all-kept (λ j. resetRound) (λ j v. record { listen = refl; flood = refl; sleep = refl }) (atMost64 m) l in
     either-cases (λ (t : List Node). Kept t l) (ltb i 64)
     (λ e v. after (one-kept (λ v. inState v Flood repeats) (λ v. record { listen = refl; flood = refl; sleep = refl }) (resetAll m l) i v) (reset v))
     (λ e. reset)
@@ -99,7 +99,7 @@ start-kept m i repeats l =
 progress-kept : (m t done : ℕ) (ss : List NodeTwoPcState) (l : List Node) → Kept (progressAll m t done ss l) l
 unfolding progressAll progressAt
 progress-kept m t done ss l =
-    all-kept (λ i. progressed done (leb t (getD ss i noState .log .len))) (λ i v. record { listen = refl; flood = refl; sleep = refl }) (few m) l
+    all-kept (λ i. progressed done (leb t (getD ss i noState .log .len))) (λ i v. record { listen = refl; flood = refl; sleep = refl }) (atMost64 m) l
 
 module _ (ws : List ℕ) (conf : PipelineConf) (p : Pipeline) (z : conf .length ≡ 0) where
   flood-none : (i : ℕ) (prep : Prepared) → floodOf ws conf p i prep ≡ floodFrom conf p i (prep .draw)

@@ -69,7 +69,7 @@ record Written (s : List ℕ) (x : TextReading) (out : List ℕ) : Type 0 where
 
 within : (p : CeTwoPcPacket) → ValidCe p → ceWithin p ≡ true
 unfolding limits
-within p v = ap₂ (λ (x y : Bool). x && y) (le-leb (p .«flags_bitmap» .len) 64 (v .bitmap .few)) (le-leb (p .«proposal_data» .len) 32 (v .bytes .few))
+within p v = ap₂ (λ (x y : Bool). x && y) (le-leb (p .«flags_bitmap» .len) 64 (v .bitmap .atMost64)) (le-leb (p .«proposal_data» .len) 32 (v .bytes .atMost64))
 
 written-by : (p : CeTwoPcPacket) (h : Held) (out : List ℕ) → (h ≡ Packet → ValidCe p) → 596 ≤ length out → Written (textIn p h) (ceAnswerBy p out h) (ceLeftBy p out h)
 unfolding ceAnswerBy ceLeftBy wroteOf leftOf written

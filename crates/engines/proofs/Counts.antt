@@ -8,7 +8,7 @@ use native.Mathlib.Nat.{mod-eq-of-lt}
 use native.Mathlib.Omega.{arith}
 use Rattle.loops.specs.Upto.{upto, upto-keeps}
 use Rattle.loops.specs.Each.{upto-each}
-use Rattle.engines.specs.Limits.{few}
+use Rattle.engines.specs.Limits.{atMost64}
 use Rattle.engines.specs.Nodes.{inc, noNode, ticked, tickedIn, tickAt, tickedAll, slots, total, Below, none, more}
 use Rattle.engines.specs.declared.node.Node.{Node}
 use Rattle.engines.specs.declared.node.NodeState.{NodeState}
@@ -42,7 +42,7 @@ pub ticked-map : (n : ℕ) (l : List Node) → n ≤ 64 → n ≤ length l → t
 unfolding tickedAll tickAt
 ticked-map n l s h = ap (λ (k : ℕ). upto k tickAt l) (low n s) ∙ upto-each noNode ticked l n h
   where
-    low : (n : ℕ) → n ≤ 64 → few n ≡ n
+    low : (n : ℕ) → n ≤ 64 → atMost64 n ≡ n
     low n s = omega arith
 
 -- A slot's tick of n positions raises the sum of all counts by n, as long as no count is at its highest.
@@ -72,4 +72,4 @@ ticked-low n l s h g b = rw (ticked-map n l s h) (low-first n l g b)
 
 pub ticked-length : (n : ℕ) (l : List Node) → length (tickedAll n l) ≡ length l
 unfolding tickedAll tickAt
-ticked-length n l = upto-keeps length tickAt l (few n) (λ i t. length-set t i (ticked (getD t i noNode)))
+ticked-length n l = upto-keeps length tickAt l (atMost64 n) (λ i t. length-set t i (ticked (getD t i noNode)))

@@ -14,7 +14,7 @@ use Rattle.loops.specs.Upto.{upto}
 use Rattle.loops.specs.Downto.{downto}
 use Rattle.loops.specs.Runs.{go}
 use Rattle.marks.specs.Marks.{has}
-use Rattle.engines.specs.Limits.{few}
+use Rattle.engines.specs.Limits.{atMost64}
 use Rattle.engines.specs.Marked.{overMarks}
 use Rattle.engines.specs.Settings.{isLossy}
 use Rattle.engines.specs.Words.{nextOf, Order, swapStep, shuffled}
@@ -81,7 +81,7 @@ module _ (ws : List ℕ) where
 
   pub shuffled-later : (count : ℕ) (o : Order) → Later ws (o .draw) (shuffled ws count o .draw)
   unfolding shuffled
-  shuffled-later count o = downto-later (λ (o : Order). o .draw) (swapStep ws) swap-later (few count - 1) o
+  shuffled-later count o = downto-later (λ (o : Order). o .draw) (swapStep ws) swap-later (atMost64 count - 1) o
 
   toss-later : (slot timeout : ℕ) (v : Node) (i : ℕ) (c : Coins) → Later ws (c .draw) (tossed1 ws slot timeout v i c .draw)
   unfolding tossed1

@@ -19,11 +19,11 @@ use Rattle.marks.specs.Marks.{has, countOf}
 use Rattle.marks.specs.Laws.{has-none}
 use Rattle.marks.specs.Sets.{has-marks, and-true}
 use Rattle.merges.specs.Votes.{noOf}
-use Rattle.merges.specs.Merging.{mergeOf, redundant, nobody, canSleepOf}
+use Rattle.merges.specs.Merging.{mergeOf, redundant, noPayload, canSleepOf}
 use Rattle.merges.specs.declared.votes.Voting.{Voting}
 use Rattle.merges.specs.declared.merging.Payload.{Payload}
 use Rattle.merges.specs.declared.merging.Merged.{Merged}
-use Rattle.engines.specs.Limits.{few}
+use Rattle.engines.specs.Limits.{atMost64}
 use Rattle.engines.specs.Words.{shuffled}
 use Rattle.engines.specs.Nodes.{noNode, isListen, isFlood, listens, floods, setsOf, ticked, tickedAll}
 use Rattle.engines.specs.Rows.{isDue, nextRow}
@@ -40,7 +40,7 @@ use Rattle.engines.specs.declared.node.NodeState.the-variants.{Listen, F
 use Rattle.engines.specs.declared.plan.Plan.{Plan}
 use Rattle.engines.specs.declared.turns.News.{News}
 use Rattle.engines.specs.declared.metrics.MetricsCollector.{MetricsCollector}
-use Rattle.engines.specs.declared.ce.Tellings.{Tellings}
+use Rattle.engines.specs.declared.ce.SlotMerges.{SlotMerges}
 use Rattle.engines.specs.declared.capture.CeRound.{CeRound}
 use Rattle.engines.specs.declared.capture.CeState.{CeState}
 use Rattle.engines.proofs.Marking.{over-none, over-fixed}
@@ -82,28 +82,28 @@ module _ (ws : List ℕ) (loss : Float) (links : List ℕ) where
 
 -- ---- its tellings
 
-record Told (held : List Payload) (t : Tellings) : Type 0 where
+record Told (held : List Payload) (t : SlotMerges) : Type 0 where
   same : t .held ≡ held
   news : t .«new_info» ≡ 0
   rests : t .«can_sleep» ≡ 0
 
 module _ (s : Voting) (held : List Payload) where
-  told-nothing : (i : ℕ) → i < 64 → hearingOf s (replicate 64 64) held i ≡ redundant (getD held i nobody)
+  told-nothing : (i : ℕ) → i < 64 → hearingOf s (replicate 64 64) held i ≡ redundant (getD held i noPayload)
   unfolding hearingOf
   told-nothing i h =
-      ap (λ (x : ℕ). either {A = Merged} (ltb x 64) (mergeOf (noOf s) (s .n) i (getD held i nobody) (getD held x nobody)) (redundant (getD held i nobody)))
+      ap (λ (x : ℕ). either {A = Merged} (ltb x 64) (mergeOf (noOf s) (s .n) i (getD held i noPayload) (getD held x noPayload)) (redundant (getD held i noPayload)))
       (getD-replicate 64 i 64 0 h)
 
-  told-one : (i : ℕ) (t : Tellings) → i < 64 → canSleepOf (s .n) (getD held i nobody) ≡ false → Told held t → Told held (toldAt s (replicate 64 64) held i t)
+  told-one : (i : ℕ) (t : SlotMerges) → i < 64 → canSleepOf (s .n) (getD held i noPayload) ≡ false → Told held t → Told held (toldAt s (replicate 64 64) held i t)
   unfolding toldAt
   told-one i t h awake p =
       rw (told-nothing i h)
-      (record { same = ap (λ (l : List Payload). set l i (getD held i nobody)) (p .same) ∙ set-getD held i nobody; news = p .news; rests = rw awake (p .rests) })
+      (record { same = ap (λ (l : List Payload). set l i (getD held i noPayload)) (p .same) ∙ set-getD held i noPayload; news = p .news; rests = rw awake (p .rests) })
 
-  told-idle : ((i : ℕ) → i < few (s .n) → canSleepOf (s .n) (getD held i nobody) ≡ false) → Told held (toldAll s (replicate 64 64) held)
+  told-idle : ((i : ℕ) → i < atMost64 (s .n) → canSleepOf (s .n) (getD held i noPayload) ≡ false) → Told held (toldAll s (replicate 64 64) held)
   unfolding toldAll
   told-idle awake =
-      upto-holds (Told held) (toldAt s (replicate 64 64) held) (few (s .n)) (λ i t h p. told-one i t (omega arith) (awake i h) p)
+      upto-holds (Told held) (toldAt s (replicate 64 64) held) (atMost64 (s .n)) (λ i t h p. told-one i t (omega arith) (awake i h) p)
       (record { held = held; «new_info» = 0; «goal_reached» = 0; «can_sleep» = 0 }) (record { same = refl; news = refl; rests = refl })
 
 -- ---- its states
@@ -137,14 +137,14 @@ passed-last k v = go (v .state) refl
     go Sleep e = rw e
 
 module _ (n : ℕ) (l : List Node) where
-  none-floods : setsOf n l .flooding ≡ 0 → (i : ℕ) → i < few n → isFlood (getD l i noNode .state) ≡ false
+  none-floods : setsOf n l .flooding ≡ 0 → (i : ℕ) → i < atMost64 n → isFlood (getD l i noNode .state) ≡ false
   unfolding setsOf floods
   none-floods e i h =
-      sym (ap (λ (b : Bool). b && isFlood (getD l i noNode .state)) (lt-ltb i (few n) h)) ∙ sym (has-marks (few n) (floods l) i) ∙ ap (λ (x : ℕ). has x i) e ∙ has-none i
+      sym (ap (λ (b : Bool). b && isFlood (getD l i noNode .state)) (lt-ltb i (atMost64 n) h)) ∙ sym (has-marks (atMost64 n) (floods l) i) ∙ ap (λ (x : ℕ). has x i) e ∙ has-none i
 
-  listens-at : (i : ℕ) → has (setsOf n l .listening) i ≡ true → (i < few n) × (isListen (getD l i noNode .state) ≡ true)
+  listens-at : (i : ℕ) → has (setsOf n l .listening) i ≡ true → (i < atMost64 n) × (isListen (getD l i noNode .state) ≡ true)
   unfolding setsOf listens
-  listens-at i e = let p = and-true (ltb i (few n)) (listens l i) (sym (has-marks (few n) (listens l) i) ∙ e) in (ltb-true i (few n) (p .0), p .1)
+  listens-at i e = let p = and-true (ltb i (atMost64 n)) (listens l i) (sym (has-marks (atMost64 n) (listens l) i) ∙ e) in (ltb-true i (atMost64 n) (p .0), p .1)
 
 -- ---- a slot
 
@@ -184,7 +184,7 @@ module _ (ws links : List ℕ) (conf : CeRound) (c : CeState) (k : ℕ) (q : Idl
   slot-nodes : (w : News) → w .recovering ≡ 0 → w .«new_info» ≡ 0 → w .«can_sleep» ≡ 0 → turnedAll pos (c .slot) w (tickedAll pos (c .nodes)) ≡ passedAll pos 1 (c .nodes)
   unfolding turnedAll
   slot-nodes w r e s =
-      upto-same (turnAt (c .slot) w) (each noNode (turned (c .slot) false false false false)) (tickedAll pos (c .nodes)) (few pos)
+      upto-same (turnAt (c .slot) w) (each noNode (turned (c .slot) false false false false)) (tickedAll pos (c .nodes)) (atMost64 pos)
       (λ i h l. ap (λ (v : Node). set l i v) (turn-none (c .slot) w r e s i (getD l i noNode))) ∙
       turn-passes pos (c .nodes) (q .small .nodes) (turned (c .slot) false false false false)
       (λ i h. settled (c .slot) (getD (c .nodes) i noNode .state) (getD (c .nodes) i noNode) refl (none-floods pos (c .nodes) (q .silent) i h))

@@ -6,7 +6,7 @@ use mathlib.Core.Path.{_≡_, refl, sym, ap, _∙_}
 use lib.ListN.{length, getD, length-map}
 use lib.Seq.{map-set-same}
 use Rattle.loops.specs.Upto.{upto-keeps}
-use Rattle.engines.specs.Limits.{few}
+use Rattle.engines.specs.Limits.{atMost64}
 use Rattle.engines.specs.Nodes.{noNode, counted, tickedAll, total, slots, Below, none, more}
 use Rattle.engines.specs.Turns.{started, startAt, startedAll, turned, turnOf, turnAt, turnedAll}
 use Rattle.engines.proofs.Counts.{ticked-total, ticked-low, ticked-length}
@@ -19,11 +19,11 @@ bare v = counted noNode (v .«slots_listen») (v .«slots_flood») (v .«slots_s
 
 pub started-bare : (n initiator slot : ℕ) (l : List Node) → map bare (startedAll n initiator slot l) ≡ map bare l
 unfolding startedAll started
-started-bare n initiator slot l = upto-keeps (map bare) (startAt initiator slot) l (few n) (λ i t. map-set-same bare t i (started initiator slot i (getD t i noNode)) noNode refl)
+started-bare n initiator slot l = upto-keeps (map bare) (startAt initiator slot) l (atMost64 n) (λ i t. map-set-same bare t i (started initiator slot i (getD t i noNode)) noNode refl)
 
 pub turned-bare : (n slot : ℕ) (w : News) (l : List Node) → map bare (turnedAll n slot w l) ≡ map bare l
 unfolding turnedAll turnOf turned
-turned-bare n slot w l = upto-keeps (map bare) (turnAt slot w) l (few n) (λ i t. map-set-same bare t i (turnOf slot w i (getD t i noNode)) noNode refl)
+turned-bare n slot w l = upto-keeps (map bare) (turnAt slot w) l (atMost64 n) (λ i t. map-set-same bare t i (turnOf slot w i (getD t i noNode)) noNode refl)
 
 -- what the counts alone decide
 total-bare : (l : List Node) → total (map bare l) ≡ total l

@@ -18,7 +18,7 @@ use Rattle.loops.specs.Runs.{go}
 use Rattle.marks.specs.Marks.{has}
 use Rattle.marks.specs.Laws.{has-none}
 use Rattle.marks.specs.Sets.{and-true, has-marks}
-use Rattle.engines.specs.Limits.{few}
+use Rattle.engines.specs.Limits.{atMost64}
 use Rattle.engines.specs.Marked.{overMarks, withMark}
 use Rattle.engines.specs.Settings.{isLossy}
 use Rattle.engines.specs.Words.{nextOf, coinOf, pickOf, Order, swapped, swapStep, shuffled}
@@ -67,7 +67,7 @@ module _ (Q : ℕ → Type 0) where
 
   shuffled-good : (ws : List ℕ) (count : ℕ) (o : Order) → Good (o .ids) count → Good (shuffled ws count o .ids) count
   unfolding shuffled
-  shuffled-good ws count o g = downto-good ws count (few count - 1) o (omega arith) g
+  shuffled-good ws count o g = downto-good ws count (atMost64 count - 1) o (omega arith) g
 
   -- whoever is found is one of them
   abbrev Found : Heard → Type 0

@@ -10,7 +10,7 @@ use native.Mathlib.Omega.{arith}
 use borrow.Author.Tests.{ltb-true, ltb-false}
 use Rattle.marks.specs.Marks.{marks, countOf}
 use Rattle.marks.specs.Sets.{has-marks}
-use Rattle.engines.specs.Limits.{few}
+use Rattle.engines.specs.Limits.{atMost64}
 use Rattle.engines.specs.Nodes.{noNode, isListen, isFlood, isSleep, listens, floods, sleeps, setsOf}
 use Rattle.engines.specs.Rows.{rowOf}
 use Rattle.engines.specs.declared.node.Node.{Node}
@@ -39,7 +39,7 @@ module _ (n : ℕ) (l : List Node) where
 -- the three numbers of a row's states add up to the positions
 pub row-sum : (slot n : ℕ) (l : List Node) → n ≤ 64 → rowOf slot n l .listening + rowOf slot n l .flooding + rowOf slot n l .sleeping ≡ n
 unfolding rowOf setsOf
-row-sum slot n l h = counted-upto (few n) l 64 ∙ all n h
+row-sum slot n l h = counted-upto (atMost64 n) l 64 ∙ all n h
   where
-    all : (n : ℕ) → n ≤ 64 → min 64 (few n) ≡ n
+    all : (n : ℕ) → n ≤ 64 → min 64 (atMost64 n) ≡ n
     all n h = omega arith

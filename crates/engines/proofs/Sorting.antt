@@ -8,7 +8,7 @@ use lib.ListN.{getD}
 use native.Mathlib.Omega.{arith}
 use Rattle.marks.specs.Marks.{has}
 use Rattle.marks.specs.Sets.{grown-none, grown-turn, grown-all}
-use Rattle.engines.specs.Limits.{few}
+use Rattle.engines.specs.Limits.{atMost64}
 use Rattle.engines.specs.Nodes.{noNode, isListen, isFlood, isSleep, listens, floods, sleeps, setsOf}
 use Rattle.engines.specs.declared.node.Node.{Node}
 use Rattle.engines.specs.declared.node.NodeState.{NodeState}
@@ -39,11 +39,11 @@ sorted-turn l i s r h o e =
       sleeping = λ k. grown-turn (sleeps l) (s .sleeping) (r .sleeping) i k (isSleep (getD l i noNode .state)) h (o .sleeping k) refl (e .1 .1 k);
     }
 
-pub sorted-all : (l : List Node) (n i : ℕ) (s : StateSets) → s .listening < 2 ^ 64 → s .flooding < 2 ^ 64 → s .sleeping < 2 ^ 64 → i ≤ few n → few n ≤ i → Sorted l i s → s ≡ setsOf n l
+pub sorted-all : (l : List Node) (n i : ℕ) (s : StateSets) → s .listening < 2 ^ 64 → s .flooding < 2 ^ 64 → s .sleeping < 2 ^ 64 → i ≤ atMost64 n → atMost64 n ≤ i → Sorted l i s → s ≡ setsOf n l
 unfolding setsOf
 sorted-all l n i s a b c p q o =
     rw (
-      ← grown-all (listens l) (few n) i (s .listening) (omega arith) a p q (o .listening),
-      ← grown-all (floods l) (few n) i (s .flooding) (omega arith) b p q (o .flooding),
-      ← grown-all (sleeps l) (few n) i (s .sleeping) (omega arith) c p q (o .sleeping),
+      ← grown-all (listens l) (atMost64 n) i (s .listening) (omega arith) a p q (o .listening),
+      ← grown-all (floods l) (atMost64 n) i (s .flooding) (omega arith) b p q (o .flooding),
+      ← grown-all (sleeps l) (atMost64 n) i (s .sleeping) (omega arith) c p q (o .sleeping),
     )

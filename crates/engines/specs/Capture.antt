@@ -16,7 +16,7 @@ use Rattle.engines.specs.Turns.{startedAll, turnedAll, countedSlot}
 use Rattle.engines.specs.Ce.{sentOf, toldAll}
 use Rattle.engines.specs.declared.plan.Plan.{Plan}
 use Rattle.engines.specs.declared.turns.News.{News}
-use Rattle.engines.specs.declared.ce.Tellings.{Tellings}
+use Rattle.engines.specs.declared.ce.SlotMerges.{SlotMerges}
 use Rattle.engines.specs.declared.capture.CeRound.{CeRound}
 use Rattle.engines.specs.declared.capture.CeState.{CeState}
 use Rattle.engines.specs.declared.capture.CeRun.{CeRun}
@@ -51,11 +51,11 @@ goalMet conf c =
     }
 
 -- what the plan and the merges tell each position
-abbrev pub newsOf : Plan → Tellings → News
+abbrev pub newsOf : Plan → SlotMerges → News
 newsOf p t = record { recovering = p .recovering; «new_info» = t .«new_info»; «goal_reached» = t .«goal_reached»; «can_sleep» = t .«can_sleep» }
 
 -- Coins and captures are planned, then all merge what was held at the slot's start, then states change.
-abbrev pub applied : CeRound → CeState → Plan → Tellings → CeState
+abbrev pub applied : CeRound → CeState → Plan → SlotMerges → CeState
 applied conf c p t =
     record {
       nodes = turnedAll (conf .voting .n) (c .slot) (newsOf p t) (c .nodes);

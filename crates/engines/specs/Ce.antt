@@ -10,7 +10,7 @@ use Rattle.loops.specs.Upto.{upto}
 use Rattle.packets.specs.Packets.{ceText, ceWithin}
 use Rattle.packets.specs.Writing.{textLen}
 use Rattle.merges.specs.Votes.{noOf}
-use Rattle.merges.specs.Merging.{mergeOf, redundant, nobody, goalOf, canSleepOf}
+use Rattle.merges.specs.Merging.{mergeOf, redundant, noPayload, goalOf, canSleepOf}
 use Rattle.packets.specs.declared.CeTwoPcPacket.{CeTwoPcPacket}
 use Rattle.merges.specs.declared.votes.Voting.{Voting}
 use Rattle.merges.specs.declared.merging.Held.{Held}
@@ -19,9 +19,9 @@ use Rattle.merges.specs.declared.merging.Payload.{Payload}
 use Rattle.merges.specs.declared.merging.Merged.{Merged}
 use Rattle.merges.specs.declared.merging.MergeResult.{MergeResult}
 use Rattle.merges.specs.declared.merging.MergeResult.the-variants.{Redundant, NewInfo}
-use Rattle.engines.specs.Limits.{few}
+use Rattle.engines.specs.Limits.{atMost64}
 use Rattle.engines.specs.Marked.{withMark, overMarks}
-use Rattle.engines.specs.declared.ce.Tellings.{Tellings}
+use Rattle.engines.specs.declared.ce.SlotMerges.{SlotMerges}
 
 -- The length of a payload: that of its text, and nothing where there is no packet.
 abbrev pub lenBy : CeTwoPcPacket → Held → ℕ
@@ -34,7 +34,7 @@ payloadLen l = lenBy (l .packet) (l .held)
 
 -- Every flooding position that gets to act sends the payload that it held at the slot's start.
 unfoldable pub sentAt : List Payload → ℕ → ℕ → ℕ
-sentAt held i sum = (sum + payloadLen (getD held i nobody)) % 2 ^ 64
+sentAt held i sum = (sum + payloadLen (getD held i noPayload)) % 2 ^ 64
 
 unfoldable pub sentOf : ℕ → List Payload → ℕ
 sentOf flooding held = overMarks flooding (sentAt held) 0
@@ -47,13 +47,13 @@ isNews NewInfo = true
 unfoldable pub hearingOf : Voting → List ℕ → List Payload → ℕ → Merged
 hearingOf s hears held i =
     either (ltb (getD hears i 0) 64)
-    (mergeOf (noOf s) (s .n) i (getD held i nobody) (getD held (getD hears i 0) nobody))
-    (redundant (getD held i nobody))
+    (mergeOf (noOf s) (s .n) i (getD held i noPayload) (getD held (getD hears i 0) noPayload))
+    (redundant (getD held i noPayload))
 
 abbrev pub notedIf : Bool → ℕ → ℕ → ℕ
 notedIf t i m = either t (withMark m i) m
 
-abbrev pub toldBy : ℕ → ℕ → Merged → Tellings → Tellings
+abbrev pub toldBy : ℕ → ℕ → Merged → SlotMerges → SlotMerges
 toldBy n i m t =
     record {
       held = set (t .held) i (m .payload);
@@ -62,9 +62,9 @@ toldBy n i m t =
       «can_sleep» = notedIf (canSleepOf n (m .payload)) i (t .«can_sleep»);
     }
 
-unfoldable pub toldAt : Voting → List ℕ → List Payload → ℕ → Tellings → Tellings
+unfoldable pub toldAt : Voting → List ℕ → List Payload → ℕ → SlotMerges → SlotMerges
 toldAt s hears held i t = toldBy (s .n) i (hearingOf s hears held i) t
 
-unfoldable pub toldAll : Voting → List ℕ → List Payload → Tellings
+unfoldable pub toldAll : Voting → List ℕ → List Payload → SlotMerges
 toldAll s hears held =
-    upto (few (s .n)) (toldAt s hears held) (record { held = held; «new_info» = 0; «goal_reached» = 0; «can_sleep» = 0 })
+    upto (atMost64 (s .n)) (toldAt s hears held) (record { held = held; «new_info» = 0; «goal_reached» = 0; «can_sleep» = 0 })

@@ -5,7 +5,7 @@ use mathlib.Core.List.{List, [], _∷_}
 use lib.ListN.{set, getD}
 use Rattle.loops.specs.Upto.{upto}
 use Rattle.marks.specs.Marks.{marks}
-use Rattle.engines.specs.Limits.{few}
+use Rattle.engines.specs.Limits.{atMost64}
 use Rattle.engines.specs.declared.node.Node.{Node}
 use Rattle.engines.specs.declared.node.StateSets.{StateSets}
 use Rattle.engines.specs.declared.node.NodeState.{NodeState}
@@ -72,7 +72,7 @@ tickAt i l = set l i (ticked (getD l i noNode))
 
 -- A slot first ticks every position.
 unfoldable pub tickedAll : ℕ → List Node → List Node
-tickedAll n l = upto (few n) tickAt l
+tickedAll n l = upto (atMost64 n) tickAt l
 
 -- The three counts of a position together, and those of all positions.
 abbrev pub slots : Node → ℕ
@@ -116,7 +116,7 @@ sleeps l i = isSleep (getD l i noNode .state)
 unfoldable pub setsOf : ℕ → List Node → StateSets
 setsOf n l =
     record {
-      listening = marks (few n) (listens l);
-      flooding = marks (few n) (floods l);
-      sleeping = marks (few n) (sleeps l);
+      listening = marks (atMost64 n) (listens l);
+      flooding = marks (atMost64 n) (floods l);
+      sleeping = marks (atMost64 n) (sleeps l);
     }

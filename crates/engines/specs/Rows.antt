@@ -8,13 +8,13 @@ use lib.Seq.{sets}
 use Rattle.loops.specs.Pick.{either}
 use Rattle.loops.specs.Highest.{highest}
 use Rattle.marks.specs.Marks.{countOf}
-use Rattle.engines.specs.Limits.{few}
+use Rattle.engines.specs.Limits.{atMost64}
 use Rattle.engines.specs.Nodes.{noNode, setsOf}
 use Rattle.engines.specs.declared.node.Node.{Node}
 use Rattle.engines.specs.declared.rows.Row.{Row}
 
 unfoldable pub highestProgress : ℕ → List Node → ℕ
-highestProgress n l = highest (few n) (λ i. getD l i noNode .«progress_count»)
+highestProgress n l = highest (atMost64 n) (λ i. getD l i noNode .«progress_count»)
 
 -- A row: the slot, the highest progress, and how many positions listen, flood and sleep.
 unfoldable pub rowOf : ℕ → ℕ → List Node → Row

@@ -8,8 +8,8 @@ use lib.ListN.{length, getD}
 use Rattle.loops.specs.Upto.{upto}
 use Rattle.loops.specs.Each.{each}
 use Rattle.loops.specs.Runs.{runs}
-use Rattle.merges.specs.Merging.{nobody, canSleepOf, networkGoalOf}
-use Rattle.engines.specs.Limits.{few}
+use Rattle.merges.specs.Merging.{noPayload, canSleepOf, networkGoalOf}
+use Rattle.engines.specs.Limits.{atMost64}
 use Rattle.engines.specs.Nodes.{noNode, counted, isListen, setsOf}
 use Rattle.engines.specs.Capture.{begun, slotOf, over, rowsDue, rowsOf}
 use Rattle.engines.specs.declared.node.Node.{Node}
@@ -48,7 +48,7 @@ unfoldable pub passed : ℕ → Node → Node
 passed k v = passedIn (v .state) k v
 
 unfoldable pub passedAll : ℕ → ℕ → List Node → List Node
-passedAll n k l = upto (few n) (each noNode (passed k)) l
+passedAll n k l = upto (atMost64 n) (each noNode (passed k)) l
 
 -- ---- a capture round
 
@@ -71,8 +71,8 @@ pub record Idle (conf : CeRound) (k : ℕ) (c : CeState) : Type 0 where
   pub rows : c .slot + k ≤ c .«next_row»
   pub goal : networkGoalOf (conf .voting .n) (c .held) ≡ false
   pub silent : setsOf (conf .voting .n) (c .nodes) .flooding ≡ 0
-  pub waits : (i : ℕ) → i < few (conf .voting .n) → Waits (c .slot) (conf .settings .«listen_timeout») k (getD (c .nodes) i noNode)
-  pub awake : (i : ℕ) → i < few (conf .voting .n) → canSleepOf (conf .voting .n) (getD (c .held) i nobody) ≡ false
+  pub waits : (i : ℕ) → i < atMost64 (conf .voting .n) → Waits (c .slot) (conf .settings .«listen_timeout») k (getD (c .nodes) i noNode)
+  pub awake : (i : ℕ) → i < atMost64 (conf .voting .n) → canSleepOf (conf .voting .n) (getD (c .held) i noPayload) ≡ false
 
 -- Such slots raise counts and the slot.
 unfoldable pub idled : CeRound → ℕ → CeState → CeState

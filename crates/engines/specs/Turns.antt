@@ -7,7 +7,7 @@ use lib.ListN.{set, getD}
 use Rattle.loops.specs.Pick.{either}
 use Rattle.loops.specs.Upto.{upto}
 use Rattle.marks.specs.Marks.{has}
-use Rattle.engines.specs.Limits.{few}
+use Rattle.engines.specs.Limits.{atMost64}
 use Rattle.engines.specs.Nodes.{noNode, isFlood, isSleep}
 use Rattle.engines.specs.declared.node.Node.{Node}
 use Rattle.engines.specs.declared.node.NodeState.{NodeState}
@@ -34,7 +34,7 @@ abbrev pub startAt : ℕ → ℕ → ℕ → List Node → List Node
 startAt initiator slot i l = set l i (started initiator slot i (getD l i noNode))
 
 unfoldable pub startedAll : ℕ → ℕ → ℕ → List Node → List Node
-startedAll n initiator slot l = upto (few n) (startAt initiator slot) l
+startedAll n initiator slot l = upto (atMost64 n) (startAt initiator slot) l
 
 -- The next state. One that can sleep goes from Flood to Sleep, and from any other state, Sleep too, to Flood. Any other floods
 -- if it progressed, sleeps on if it slept, and else listens.
@@ -64,7 +64,7 @@ abbrev pub turnAt : ℕ → News → ℕ → List Node → List Node
 turnAt slot w i l = set l i (turnOf slot w i (getD l i noNode))
 
 unfoldable pub turnedAll : ℕ → ℕ → News → List Node → List Node
-turnedAll n slot w l = upto (few n) (turnAt slot w) l
+turnedAll n slot w l = upto (atMost64 n) (turnAt slot w) l
 
 -- what a slot's plan counted, added to what was counted before
 unfoldable pub countedSlot : Plan → MetricsCollector → MetricsCollector

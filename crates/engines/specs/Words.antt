@@ -8,7 +8,7 @@ use lib.IntN.{pos}
 use lib.Ieee.{Float, binary64, div, ofInt, ofBits, lt}
 use Rattle.loops.specs.Pick.{either}
 use Rattle.loops.specs.Downto.{downto}
-use Rattle.engines.specs.Limits.{few}
+use Rattle.engines.specs.Limits.{atMost64}
 use Rattle.engines.specs.declared.words.Draw.{Draw}
 use Rattle.engines.specs.declared.words.Drawn.{Drawn}
 
@@ -53,4 +53,4 @@ swapStep ws i o = swapWith i o (nextOf ws (o .draw))
 
 -- for i from count - 1 down to 1
 unfoldable pub shuffled : List ℕ → ℕ → Order → Order
-shuffled ws count o = downto (few count - 1) (swapStep ws) o
+shuffled ws count o = downto (atMost64 count - 1) (swapStep ws) o

@@ -19,7 +19,7 @@ use packets::two_pc_ce;
 
 // What positions hold after a slot, and a mark for each whose merge was new to it, who then has reached its goal, and who can
 // sleep by what it holds.
-pub struct Tellings {
+pub struct SlotMerges {
     pub held: [Payload; 64],
     pub new_info: u64,
     pub goal_reached: u64,
@@ -86,7 +86,7 @@ fn note(m: u64, i: usize, yes: bool) -> u64
 }
 
 // Each of the first n positions merges what it heard, all of it as it was held at the slot's start.
-pub fn tell_all(voting: Voting, held: [Payload; 64], hears: [usize; 64]) -> Tellings
+pub fn tell_all(voting: Voting, held: [Payload; 64], hears: [usize; 64]) -> SlotMerges
     ensures { λ r. ⌜ r ≡ toldAll voting hears held ⌝ }
 {
     let count = limits::at_most_64(voting.n);
@@ -107,7 +107,7 @@ pub fn tell_all(voting: Voting, held: [Payload; 64], hears: [usize; 64]) -> Tell
         can_sleep = note(can_sleep, i, merging::node_can_sleep(voting.n, p));
         i += 1;
     }
-    Tellings {
+    SlotMerges {
         held: after,
         new_info,
         goal_reached,

@@ -4,8 +4,8 @@ ghost use mathlib.Core.Path.{_≡_};
 ghost use mathlib.Core.Bool.{true, false};
 ghost use Prim.Native.Nat.{ℕ, _+_, _-_, _<_, _≤_};
 ghost use lib.ListN.{getD};
-ghost use Rattle.merges.specs.Merging.{nobody, canSleepOf};
-ghost use Rattle.engines.specs.Limits.{few};
+ghost use Rattle.merges.specs.Merging.{noPayload, canSleepOf};
+ghost use Rattle.engines.specs.Limits.{atMost64};
 ghost use Rattle.engines.specs.Nodes.{noNode};
 ghost use Rattle.engines.specs.Stretch.{Waits, Idle, idled};
 use super::capture::CeRound;
@@ -48,7 +48,7 @@ fn waits_for(v: Node, slot: u64, timeout: u64, most: u64) -> u64
 
 // The slots for which none of the first n positions tosses a coin, but no more than `most`.
 fn shortest_wait(at: [Node; 64], n: usize, slot: u64, timeout: u64, most: u64) -> u64
-    ensures { λ r. ⌜ (r ≤ most) × (0 < r → (i : ℕ) → i < few n → Waits slot timeout r (getD at i noNode)) ⌝ }
+    ensures { λ r. ⌜ (r ≤ most) × (0 < r → (i : ℕ) → i < atMost64 n → Waits slot timeout r (getD at i noNode)) ⌝ }
 {
     let count = limits::at_most_64(n);
     let mut wait = most;
@@ -63,7 +63,7 @@ fn shortest_wait(at: [Node; 64], n: usize, slot: u64, timeout: u64, most: u64) -
 
 // Whether none of the first n positions can sleep. One that can would flood in the next slot.
 fn nobody_can_sleep(held: [Payload; 64], n: usize) -> bool
-    ensures { λ r. ⌜ (r ≡ true → (i : ℕ) → i < few n → canSleepOf n (getD held i nobody) ≡ false) ⌝ }
+    ensures { λ r. ⌜ (r ≡ true → (i : ℕ) → i < atMost64 n → canSleepOf n (getD held i noPayload) ≡ false) ⌝ }
 {
     let count = limits::at_most_64(n);
     let mut i: usize = 0;

@@ -9,7 +9,7 @@ use Rattle.loops.specs.Pick.{either}
 use Rattle.loops.specs.Table.{tabulate}
 use Rattle.loops.specs.Upto.{upto}
 use Rattle.packets_c.specs.Console.{phaseNumber, phaseNumbered}
-use Rattle.merges.specs.Merging.{nobody}
+use Rattle.merges.specs.Merging.{noPayload}
 use Rattle.packets.specs.declared.CeTwoPcPacket.{CeTwoPcPacket}
 use Rattle.merges.specs.declared.merging.Held.{Held}
 use Rattle.merges.specs.declared.merging.Held.the-variants.{Empty, Unreadable, Packet}
@@ -56,7 +56,7 @@ unfoldable pub putPayload : ℕ → ℕ → Payload → List ℕ → List ℕ
 putPayload at k l xs = sets (sets xs (at + k) (payloadNumbers l)) (at + (k + 6)) (l .packet .«proposal_data» .bytes)
 
 abbrev pub putPlace : ℕ → List Payload → ℕ → List ℕ → List ℕ
-putPlace at held i xs = putPayload at (i * 38) (getD held i nobody) xs
+putPlace at held i xs = putPayload at (i * 38) (getD held i noPayload) xs
 
 unfoldable pub putHeld : ℕ → List Payload → List ℕ → List ℕ
 putHeld at held xs = upto 64 (putPlace at held) xs

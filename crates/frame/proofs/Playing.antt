@@ -76,7 +76,7 @@ pub record Kept (s : List ℕ) (f : Frame) : Type 0 where
   pub name : f .name ≡ nameLength s
   pub short : f .name ≤ 255
   pub count : f .words ≡ wordCount s
-  pub few : f .words ≤ 3745
+  pub atMost64 : f .words ≤ 3745
   pub span : f .span < 2 ^ 32
   pub txs : f .transactions < 256
 
@@ -130,7 +130,7 @@ kept s {f} q e = subst (Kept s) (sym q) (go (isFrame s) refl (sym (ap (λ (x : F
           name = refl;
           short = omega (arith, number-lt s 74 2);
           count = refl;
-          few = words-few (length s) (nameLength s) (bounded s p .0) (bounded s p .1);
+          atMost64 = words-few (length s) (nameLength s) (bounded s p .0) (bounded s p .1);
           span = number-lt s 10 8;
           txs = number-lt s 8 2;
         }

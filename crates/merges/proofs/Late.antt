@@ -6,7 +6,7 @@ use Prim.Native.Nat.{ℕ, zero, suc, _<_}
 use lib.Dec.{ltb}
 use lib.ListN.{getD, set, replicate}
 use borrow.Author.Tests.{ltb-true}
-use Rattle.merges.specs.Merging.{Noes, mergeOf, proposalOf, nobody}
+use Rattle.merges.specs.Merging.{Noes, mergeOf, proposalOf, noPayload}
 use Rattle.merges.specs.Sound.{SoundBy, SoundHeld}
 use Rattle.merges.specs.Late.{Moment, opening, Event, Propose, Deliver, History, heldAt, happened, after, history, LateFrames}
 use Rattle.merges.specs.declared.merging.Held.the-variants.{Packet}
@@ -15,9 +15,9 @@ use Rattle.merges.proofs.Safety.{either-cases, merges-sound, proposes-s
 
 module _ (nay : Noes) (n : ℕ) where
   abbrev pub SoundAll : List Payload → Type 0
-  SoundAll l = (u : ℕ) → SoundHeld nay n (getD l u nobody)
+  SoundAll l = (u : ℕ) → SoundHeld nay n (getD l u noPayload)
 
-  pub nobody-sound : (k : ℕ) → SoundAll (replicate k nobody)
+  pub nobody-sound : (k : ℕ) → SoundAll (replicate k noPayload)
   nobody-sound zero u = tt
   nobody-sound (suc k) zero = tt
   nobody-sound (suc k) (suc u) = nobody-sound k u
@@ -36,13 +36,13 @@ module _ (nay : Noes) (n : ℕ) where
   unfolding happened
   happened-sound (Propose v) h a p s =
       either-cases (λ (b : Moment). SoundAll (b .held)) (ltb v n)
-      (λ t. set-sound (replicate n nobody) v (record { held = Packet; packet = proposalOf nay n v (a .term) }) (nobody-sound n)
+      (λ t. set-sound (replicate n noPayload) v (record { held = Packet; packet = proposalOf nay n v (a .term) }) (nobody-sound n)
       (proposes-sound nay n v (a .term) (ltb-true v n t)))
       (λ t. s)
   happened-sound (Deliver v m w) h a p s =
       either-cases (λ (b : Moment). SoundAll (b .held)) (ltb v n)
-      (λ t. set-sound (a .held) v (mergeOf nay n v (getD (a .held) v nobody) (heldAt h m w) .payload) s
-      (merges-sound nay n v (getD (a .held) v nobody) (heldAt h m w) (ltb-true v n t) (s v) (p m w)))
+      (λ t. set-sound (a .held) v (mergeOf nay n v (getD (a .held) v noPayload) (heldAt h m w) .payload) s
+      (merges-sound nay n v (getD (a .held) v noPayload) (heldAt h m w) (ltb-true v n t) (s v) (p m w)))
       (λ t. s)
 
   past-more : (a : Moment) (h : History) → SoundAll (a .held) → Past h → Past (a ∷ h)

@@ -43,12 +43,12 @@ word-lt len f h =
     inside j true e = ap (λ (t : Bool). t && f j) (lt-ltb j 64 (omega (arith, ltb-true j len e)))
     inside j false e = both-false (ltb j 64)
 
-module _ (n : ℕ) (few : n ≤ 64) where
+module _ (n : ℕ) (atMost64 : n ≤ 64) where
   filled-valid : (b : Bitmap) → ValidBitmap b → ValidBitmap (filledOf n b)
   unfolding filledOf
   filled-valid b s = record {
-    few = omega (arith, s .few);
-    marks-lt = lt-of-lt-of-le (word-lt (b .len) (λ j. has (b .marks) j) (s .few)) (pow-mono (larger (b .len) n));
+    atMost64 = omega (arith, s .atMost64);
+    marks-lt = lt-of-lt-of-le (word-lt (b .len) (λ j. has (b .marks) j) (s .atMost64)) (pow-mono (larger (b .len) n));
   }
     where
       larger : (a c : ℕ) → a ≤ max a c
@@ -56,15 +56,15 @@ module _ (n : ℕ) (few : n ≤ 64) where
 
   marked-valid : (v : ℕ) (b : Bitmap) → ValidBitmap b → ValidBitmap (markedOf v b)
   unfolding markedOf
-  marked-valid v b s = record { few = s .few; marks-lt = word-lt (b .len) (λ j. has (b .marks) j || eqb j v) (s .few) }
+  marked-valid v b s = record { atMost64 = s .atMost64; marks-lt = word-lt (b .len) (λ j. has (b .marks) j || eqb j v) (s .atMost64) }
 
   only-valid : (v : ℕ) → ValidBitmap (onlyOf n v)
   unfolding onlyOf
-  only-valid v = record { few = few; marks-lt = word-lt n (λ j. eqb j v) few }
+  only-valid v = record { atMost64 = atMost64; marks-lt = word-lt n (λ j. eqb j v) atMost64 }
 
   join-valid : (a b : Bitmap) → ValidBitmap a → ValidBitmap (joinOf n a b)
   unfolding joinOf
-  join-valid a b s = record { few = s .few; marks-lt = word-lt (a .len) (λ j. has (a .marks) j || (ltb j n && entry b j)) (s .few) }
+  join-valid a b s = record { atMost64 = s .atMost64; marks-lt = word-lt (a .len) (λ j. has (a .marks) j || (ltb j n && entry b j)) (s .atMost64) }
 
   state-valid : (f : TwoPcPhase) (b : Bitmap) (p : CeTwoPcPacket) → ValidCe p → ValidBitmap b → ValidCe (withState f b p)
   state-valid f b p s h = record { term-fits = s .term-fits; bytes = s .bytes; bitmap = h }
@@ -117,13 +117,13 @@ data-valid : (t : ℕ) → t < 2 ^ 64 → ValidData (proposalData t)
 unfolding proposalData
 data-valid t h =
     record {
-      few = omega (arith, decimal-word t h);
+      atMost64 = omega (arith, decimal-word t h);
       small = rw (text-back t) (more {x = 116} (omega arith) (more {x = 120} (omega arith) (digits-small t)));
       zeros = ap (written (replicate 32 0) 0) (sym (text-back t));
     }
 
 blank-valid : (n t : ℕ) → n ≤ 64 → t < 2 ^ 64 → ValidCe (blank n t)
-blank-valid n t h k = record { term-fits = k; bytes = data-valid t k; bitmap = record { few = h; marks-lt = pow-pos n } }
+blank-valid n t h k = record { term-fits = k; bytes = data-valid t k; bitmap = record { atMost64 = h; marks-lt = pow-pos n } }
 
 pub proposes-valid : ProposesValid
 unfolding proposalOf

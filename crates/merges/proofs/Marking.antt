@@ -92,7 +92,7 @@ marks-from nay n v l r k i h =
     l r (λ e j x. inl x) (λ e j x. inr (inl x)) k i h
 
 -- ---- the own mark
-module _ (nay : Noes) (n v : ℕ) (inside : v < n) (few : n ≤ 64) where
+module _ (nay : Noes) (n v : ℕ) (inside : v < n) (atMost64 : n ≤ 64) where
   abbrev Own : CeTwoPcPacket → Type 0
   Own p = entry (p .«flags_bitmap») v ≡ true
 

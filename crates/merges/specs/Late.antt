@@ -7,7 +7,7 @@ use Prim.Native.Nat.{ℕ}
 use lib.Dec.{ltb}
 use lib.ListN.{getD, set, replicate}
 use Rattle.loops.specs.Pick.{either}
-use Rattle.merges.specs.Merging.{Noes, mergeOf, proposalOf, nobody}
+use Rattle.merges.specs.Merging.{Noes, mergeOf, proposalOf, noPayload}
 use Rattle.packets.specs.declared.TwoPcPhase.the-variants.{Committed, Aborted}
 use Rattle.packets.specs.declared.CeTwoPcPacket.{CeTwoPcPacket}
 use Rattle.merges.specs.declared.merging.Held.the-variants.{Packet}
@@ -20,7 +20,7 @@ pub record Moment : Type 0 where
 
 -- at first all are empty
 abbrev pub opening : ℕ → ℕ → Moment
-opening n t = record { term = t; held = replicate n nobody }
+opening n t = record { term = t; held = replicate n noPayload }
 
 -- `Deliver v m u`: position v hears what position u held m moments ago; if that was nothing, it hears nothing
 pub data Event : Type 0 where
@@ -32,17 +32,17 @@ abbrev pub History : Type 0
 History = List Moment
 
 abbrev pub heldAt : History → ℕ → ℕ → Payload
-heldAt h m u = getD (getD h m (opening 0 0) .held) u nobody
+heldAt h m u = getD (getD h m (opening 0 0) .held) u noPayload
 
 -- one event: a position that is none of the n changes nothing
 unfoldable pub happened : Noes → ℕ → Event → History → Moment → Moment
 happened nay n (Propose v) h a =
     either (ltb v n)
-    (record { term = proposalOf nay n v (a .term) .term; held = set (replicate n nobody) v (record { held = Packet; packet = proposalOf nay n v (a .term) }) })
+    (record { term = proposalOf nay n v (a .term) .term; held = set (replicate n noPayload) v (record { held = Packet; packet = proposalOf nay n v (a .term) }) })
     a
 happened nay n (Deliver v m u) h a =
     either (ltb v n)
-    (record { term = a .term; held = set (a .held) v (mergeOf nay n v (getD (a .held) v nobody) (heldAt h m u) .payload) })
+    (record { term = a .term; held = set (a .held) v (mergeOf nay n v (getD (a .held) v noPayload) (heldAt h m u) .payload) })
     a
 
 -- the history after one event more, and after a list of them

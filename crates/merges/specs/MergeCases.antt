@@ -8,7 +8,7 @@ use lib.Dec.{eqb}
 use lib.Ieee.{Float, nan, binary64, ofBits, lt}
 use lib.ListN.{replicate}
 use Rattle.merges.specs.Votes.{noOf}
-use Rattle.merges.specs.Merging.{Noes, redundant, newInfo, mergeOf, proposalOf, nobody, canSleepOf, networkGoalOf, outcomeOf}
+use Rattle.merges.specs.Merging.{Noes, redundant, newInfo, mergeOf, proposalOf, noPayload, canSleepOf, networkGoalOf, outcomeOf}
 use Rattle.packets.specs.declared.TwoPcPhase.{TwoPcPhase}
 use Rattle.packets.specs.declared.TwoPcPhase.the-variants.{Prepare, Committed, Aborted}
 use Rattle.packets.specs.declared.CeTwoPcPacket.{CeTwoPcPacket}
@@ -46,7 +46,7 @@ abbrev pub on : CeTwoPcPacket → Payload
 on p = record { held = Packet; packet = p }
 
 abbrev pub garbled : Payload
-garbled = record { held = Unreadable; packet = nobody .packet }
+garbled = record { held = Unreadable; packet = noPayload .packet }
 
 abbrev pub allYes : Noes
 allYes t i = false
@@ -67,7 +67,7 @@ b = 98 ∷ []
 -- adopting votes even if the own entry is marked; a merge within the term does not
 abbrev pub AdoptingVotes : Type 0
 AdoptingVotes =
-    (mergeOf (noOf (voting 2 0x3FF0_0000_0000_0000 0)) 2 1 nobody (on (held Prepare a 2 3)) ≡ newInfo (held Aborted a 2 2))
+    (mergeOf (noOf (voting 2 0x3FF0_0000_0000_0000 0)) 2 1 noPayload (on (held Prepare a 2 3)) ≡ newInfo (held Aborted a 2 2))
     × (mergeOf (noOf (voting 3 0x3FF0_0000_0000_0000 0)) 3 1 (on (held Prepare b 3 2)) (on (held Prepare a 3 3)) ≡ newInfo (held Prepare b 3 3))
 
 -- the data stays local, also where the received phase is taken
@@ -101,7 +101,7 @@ LowerPhase = mergeOf allYes 2 1 (on (held Committed a 2 1)) (on (held Prepare a 
 -- what is no packet is redundant, and so is any packet to an unreadable local
 abbrev pub NoPacket : Type 0
 NoPacket =
-    (mergeOf allYes 2 0 nobody nobody ≡ redundant nobody)
+    (mergeOf allYes 2 0 noPayload noPayload ≡ redundant noPayload)
     × (mergeOf allYes 2 0 (on (held Prepare a 2 1)) garbled ≡ redundant (on (held Prepare a 2 1)))
     × (mergeOf allYes 2 0 garbled (on (held Prepare a 2 1)) ≡ redundant garbled)
 
@@ -121,18 +121,18 @@ Proposals =
     (proposalOf allYes 1 0 0 ≡ proposed Committed 1 1)
     × (proposalOf allNo 1 0 0 ≡ proposed Aborted 1 1)
     × (proposalOf allYes 2 0 0 ≡ proposed Prepare 2 1)
-    × (mergeOf allYes 2 1 nobody (on (proposed Prepare 2 1)) ≡ newInfo (proposed Committed 2 2))
+    × (mergeOf allYes 2 1 noPayload (on (proposed Prepare 2 1)) ≡ newInfo (proposed Committed 2 2))
     × (mergeOf allYes 2 0 (on (proposed Prepare 2 1)) (on (proposed Committed 2 2)) ≡ newInfo (proposed Committed 2 3))
-    × (mergeOf oneNo 2 1 nobody (on (proposed Prepare 2 1)) ≡ newInfo (proposed Aborted 2 2))
+    × (mergeOf oneNo 2 1 noPayload (on (proposed Prepare 2 1)) ≡ newInfo (proposed Aborted 2 2))
 
 -- ---- outcomes
 abbrev pub Outcomes : Type 0
 Outcomes =
     (networkGoalOf 2 (on (held Committed a 2 1) ∷ on (held Committed a 2 2) ∷ []) ≡ true)
-    × (networkGoalOf 2 (on (held Committed a 2 1) ∷ nobody ∷ []) ≡ false)
+    × (networkGoalOf 2 (on (held Committed a 2 1) ∷ noPayload ∷ []) ≡ false)
     × (outcomeOf 2 (on (held Committed a 2 1) ∷ on (held Committed a 2 2) ∷ []) ≡ outcome.Committed)
     × (outcomeOf 2 (on (held Committed a 2 1) ∷ on (held Prepare a 2 2) ∷ []) ≡ outcome.Aborted)
-    × (outcomeOf 2 (nobody ∷ nobody ∷ []) ≡ outcome.Aborted)
+    × (outcomeOf 2 (noPayload ∷ noPayload ∷ []) ≡ outcome.Aborted)
     × (canSleepOf 2 (on (held Committed a 2 3)) ≡ true)
     × (canSleepOf 2 (on (held Committed a 3 3)) ≡ false)
 

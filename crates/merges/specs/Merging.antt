@@ -194,8 +194,8 @@ unfoldable pub canSleepOf : ℕ → Payload → Bool
 canSleepOf n l = goalOf l && unanimousOf n (l .packet .«flags_bitmap»)
 
 -- what an array gives past its end: nothing
-abbrev pub nobody : Payload
-nobody =
+abbrev pub noPayload : Payload
+noPayload =
     record {
       held = Empty;
       packet = record { term = 0; phase = Prepare; «proposal_data» = record { len = 0; bytes = [] }; «flags_bitmap» = record { len = 0; marks = 0 } };
@@ -203,7 +203,7 @@ nobody =
 
 -- the first n of 64 positions, of which there is one or more, all hold phase k - 1
 unfoldable pub allHold : ℕ → ℕ → List Payload → Bool
-allHold n k ls = (ltb 0 n && leb n 64) && allOf n (λ i. eqb (standingOf (getD ls i nobody)) k)
+allHold n k ls = (ltb 0 n && leb n 64) && allOf n (λ i. eqb (standingOf (getD ls i noPayload)) k)
 
 -- everybody has the same decision
 unfoldable pub networkGoalOf : ℕ → List Payload → Bool

@@ -97,14 +97,14 @@ list-short (x ∷ r) (more h k) = omega (arith, decimal-le x 2 (omega arith), le
 
 data-short : (d : Data) → ValidData d → length (dataText d) ≤ 129
 unfolding dataText
-data-short d v = omega (arith, list-short (take (d .len) (d .bytes)) (v .small), full d v, v .few)
+data-short d v = omega (arith, list-short (take (d .len) (d .bytes)) (v .small), full d v, v .atMost64)
 
 bitmap-short : (b : Bitmap) → ValidBitmap b → length (bitmapText b) ≤ 385
 bitmap-short b v = go (eqb (b .len) 0) refl
   where
     go : (t : Bool) → eqb (b .len) 0 ≡ t → length (bitmapText b) ≤ 385
     go true e = omega (arith, bitmap-len-none b (eqb-true (b .len) 0 e))
-    go false e = omega (arith, bitmap-len-more b (eqb-false (b .len) 0 e), marks-len-le (b .len) (b .marks), v .few)
+    go false e = omega (arith, bitmap-len-more b (eqb-false (b .len) 0 e), marks-len-le (b .len) (b .marks), v .atMost64)
 
 tx-short : (p : PiggybackTx) → ValidTx p → length (txText p) ≤ 20
 tx-short tx.Absent h = omega arith

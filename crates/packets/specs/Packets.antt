@@ -134,11 +134,11 @@ pipelineWithin p = limits (p .«flags_bitmap» .len) (p .«transaction_data» .l
 
 -- ---- The packets that a text stands for: within the limits, numbers of 64 bits, bytes of 8, and nothing behind the lengths.
 pub record ValidBitmap (b : Bitmap) : Type 0 where
-  pub few : b .len ≤ 64
+  pub atMost64 : b .len ≤ 64
   pub marks-lt : b .marks < 2 ^ b .len
 
 pub record ValidData (d : Data) : Type 0 where
-  pub few : d .len ≤ 32
+  pub atMost64 : d .len ≤ 32
   pub small : Every (λ x. x < 256) (take (d .len) (d .bytes))
   pub zeros : d .bytes ≡ written (replicate 32 0) 0 (take (d .len) (d .bytes))
 

@@ -91,7 +91,7 @@ within : (p : CeTwoPcPacket) → ValidCe p → ceWithin p ≡ true
 unfolding limits
 within p s =
     true-and (leb (p .«flags_bitmap» .len) 64) (leb (p .«proposal_data» .len) 32)
-    (le-leb (p .«flags_bitmap» .len) 64 (s .bitmap .few)) (le-leb (p .«proposal_data» .len) 32 (s .bytes .few))
+    (le-leb (p .«flags_bitmap» .len) 64 (s .bitmap .atMost64)) (le-leb (p .«proposal_data» .len) 32 (s .bytes .atMost64))
 
 some-text : (p : CeTwoPcPacket) → length (ceText p) ≡ 0 → ⊥
 unfolding ceText

@@ -8,7 +8,7 @@ use lib.Seq.{sets, length-sets}
 use native.Mathlib.Nat.{mul-le-mul}
 use native.Mathlib.Omega.{arith}
 use Rattle.loops.specs.Pick.{either}
-use Rattle.engines.specs.Limits.{few}
+use Rattle.engines.specs.Limits.{atMost64}
 use Rattle.engines.specs.Nodes.{tickedAll}
 use Rattle.engines.specs.Rows.{cells, isDue, putBehind, rowOf}
 use Rattle.pipeline.specs.Flood.{floodLength, afterFlood, afterListen, nextIn, nextNode, dueAfter, floodSlot, rowAt, Writing, writeSlot}
@@ -23,7 +23,7 @@ use Rattle.engines.specs.declared.node.NodeState.the-variants.{Listen, Flood, S
 pub length-fits : (d k : ℕ) → d ≤ 64 → k < 2 ^ 32 → (d + 2) * k < 2 ^ 64
 length-fits d k h g = let p : (d + 2) * k ≤ 66 * 4294967296 = mul-le-mul {n₂ = 66} {m₂ = 4294967296} (omega arith) (omega arith) in omega arith
 
-module _ (slots diameter repeats d : ℕ) (e : d ≡ few diameter) where
+module _ (slots diameter repeats d : ℕ) (e : d ≡ atMost64 diameter) where
   pub length-short : (d + 2) * repeats < 3 → 3 ≡ floodLength false slots diameter repeats
   unfolding floodLength
   length-short h = rw (← e) (low ((d + 2) * repeats) h)

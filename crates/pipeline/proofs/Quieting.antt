@@ -18,7 +18,7 @@ use Rattle.marks.specs.Marks.{has, countOf}
 use Rattle.marks.specs.Laws.{has-none}
 use Rattle.marks.specs.Sets.{has-marks, and-true}
 use Rattle.merges.specs.Votes.{mul64}
-use Rattle.engines.specs.Limits.{few}
+use Rattle.engines.specs.Limits.{atMost64}
 use Rattle.engines.specs.Nodes.{noNode, isFlood, floods, setsOf, ticked, tickedAll}
 use Rattle.engines.specs.Rows.{isDue, nextRow}
 use Rattle.engines.specs.Stretch.{passed, passedAll}
@@ -74,9 +74,9 @@ still repeats Listen v e h = rw e
 still repeats Sleep v e h = rw e
 still repeats Flood v e h = rw (e, lt-leb (v .«flood_remaining») 1 (h (ap isFlood e)))
 
-turned-none : (n repeats : ℕ) (l : List Node) → turnedAll n repeats 0 l ≡ upto (few n) (each noNode (nextNode repeats false)) l
+turned-none : (n repeats : ℕ) (l : List Node) → turnedAll n repeats 0 l ≡ upto (atMost64 n) (each noNode (nextNode repeats false)) l
 unfolding turnedAll turnAt
-turned-none n repeats l = upto-same _ _ l (few n) (λ i h t. ap (λ (b : Bool). set t i (nextNode repeats b (getD t i noNode))) (has-none i))
+turned-none n repeats l = upto-same _ _ l (atMost64 n) (λ i h t. ap (λ (b : Bool). set t i (nextNode repeats b (getD t i noNode))) (has-none i))
 
 -- ---- its bytes
 
@@ -106,11 +106,11 @@ none-more x h = omega arith
 -- ---- a slot of it
 
 module _ (n : ℕ) (l : List Node) where
-  flooder : (i : ℕ) → has (setsOf n l .flooding) i ≡ true → (i < few n) × (isFlood (getD l i noNode .state) ≡ true)
+  flooder : (i : ℕ) → has (setsOf n l .flooding) i ≡ true → (i < atMost64 n) × (isFlood (getD l i noNode .state) ≡ true)
   unfolding setsOf floods
   flooder i m =
-      let b = and-true (ltb i (few n)) (isFlood (getD l i noNode .state)) (sym (has-marks (few n) (floods l) i) ∙ m) in
-      (ltb-true i (few n) (b .0), b .1)
+      let b = and-true (ltb i (atMost64 n)) (isFlood (getD l i noNode .state)) (sym (has-marks (atMost64 n) (floods l) i) ∙ m) in
+      (ltb-true i (atMost64 n) (b .0), b .1)
 
   same-some : (long : length l ≡ 64) (k : ℕ) → nobodyFloods n (passedAll n k l) ≡ nobodyFloods n l
   unfolding nobodyFloods

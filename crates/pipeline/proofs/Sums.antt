@@ -12,7 +12,7 @@ use Rattle.loops.specs.Pick.{either}
 use Rattle.loops.specs.Upto.{upto, upto-holds}
 use Rattle.loops.specs.Runs.{runs, runs-keeps}
 use Rattle.marks.specs.Marks.{has}
-use Rattle.engines.specs.Limits.{few}
+use Rattle.engines.specs.Limits.{atMost64}
 use Rattle.engines.specs.Nodes.{inc, noNode, resetRound, tickedAll, slots, total, Below, none, more}
 use Rattle.pipeline.specs.Flood.{inState, afterFlood, afterListen, nextIn, nextNode, turnAt, turnedAll, floodPlan, floodSlot, isOver, resetAt, resetAll, floodStart, floodRound}
 use Rattle.engines.specs.declared.node.Node.{Node}
@@ -74,7 +74,7 @@ next-alike repeats heard v = go (v .state)
 turned-sums : {n base slot : ℕ} (m repeats received : ℕ) (l : List Node) → Sums n base slot l → Sums n base slot (turnedAll m repeats received l)
 unfolding turnedAll turnAt
 turned-sums {n} {base} {slot} m repeats received l s =
-    upto-holds (λ (t : List Node). Sums n base slot t) (turnAt repeats received) (few m) (λ i t _. kept-sums (nextNode repeats (has received i)) (next-alike repeats (has received i)) t i) l s
+    upto-holds (λ (t : List Node). Sums n base slot t) (turnAt repeats received) (atMost64 m) (λ i t _. kept-sums (nextNode repeats (has received i)) (next-alike repeats (has received i)) t i) l s
 
 pub inc-is : (x : ℕ) → x < 2 ^ 32 → inc x ≡ x + 1
 inc-is x h = mod-eq-of-lt (omega arith)
@@ -119,10 +119,10 @@ unfolding floodStart resetAll resetAt
 start-sums {n} {base} {slot} m i repeats l s = by (ltb i 64)
   where
     reset : List Node
-    reset = upto (few m) resetAt l
+    reset = upto (atMost64 m) resetAt l
 
     fresh : Sums n base slot reset
-    fresh = upto-holds (λ (t : List Node). Sums n base slot t) resetAt (few m) (λ j t _. kept-sums resetRound reset-alike t j) l s
+    fresh = upto-holds (λ (t : List Node). Sums n base slot t) resetAt (atMost64 m) (λ j t _. kept-sums resetRound reset-alike t j) l s
 
     by : (b : Bool) → Sums n base slot (either b (set reset i (inState (getD reset i noNode) Flood repeats)) reset)
     by true = kept-sums (λ v. inState v Flood repeats) (λ v. record { listen = refl; flood = refl; sleep = refl }) reset i fresh

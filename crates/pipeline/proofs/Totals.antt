@@ -9,7 +9,7 @@ use native.Mathlib.Omega.{arith}
 use borrow.Author.Tests.{eqb-true, ltb-false}
 use Rattle.loops.specs.Pick.{either}
 use Rattle.loops.specs.Upto.{upto-holds}
-use Rattle.engines.specs.Limits.{few}
+use Rattle.engines.specs.Limits.{atMost64}
 use Rattle.engines.specs.Nodes.{noNode, total, Below, none, more}
 use Rattle.pipeline.specs.Pipeline.{noState, progressed, progressAt, progressAll}
 use Rattle.pipeline.specs.Round.{newPipeline, initiatorOf, preparing, floodConf, floodFrom, floodOf, closeRound, runRound, earlyOf, earlyRefusal, lateRefusal, startDraw, refusedWith, acceptedWith, lateAnswer, roundAnswer}
@@ -27,7 +27,7 @@ use Rattle.pipeline.proofs.Sums.{Sums, kept-sums, round-sums, start-sum
 progress-sums : {n base slot : ℕ} (m t done : ℕ) (ss : List NodeTwoPcState) (l : List Node) → Sums n base slot l → Sums n base slot (progressAll m t done ss l)
 unfolding progressAll progressAt
 progress-sums {n} {base} {slot} m t done ss l s =
-    upto-holds (λ (x : List Node). Sums n base slot x) (progressAt t done ss) (few m) (λ i x _. kept-sums (progressed done (leb t (getD ss i noState .log .len))) (λ v. record { listen = refl; flood = refl; sleep = refl }) x i) l s
+    upto-holds (λ (x : List Node). Sums n base slot x) (progressAt t done ss) (atMost64 m) (λ i x _. kept-sums (progressed done (leb t (getD ss i noState .log .len))) (λ v. record { listen = refl; flood = refl; sleep = refl }) x i) l s
 
 flood-of-sums : {base : ℕ} (ws : List ℕ) (conf : PipelineConf) (p : Pipeline) (i : ℕ) (prep : Prepared) → conf .n ≤ 64 → p .slot + conf .length ≤ 2 ^ 32
     → Sums (conf .n) base (p .slot) (p .at) → Sums (conf .n) base (floodOf ws conf p i prep .slot) (floodOf ws conf p i prep .at)

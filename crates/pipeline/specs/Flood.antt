@@ -12,7 +12,7 @@ use Rattle.loops.specs.Upto.{upto}
 use Rattle.loops.specs.Runs.{runs}
 use Rattle.marks.specs.Marks.{has, marks, countOf}
 use Rattle.merges.specs.Votes.{mul64}
-use Rattle.engines.specs.Limits.{few}
+use Rattle.engines.specs.Limits.{atMost64}
 use Rattle.engines.specs.Marked.{overMarks, withMark}
 use Rattle.engines.specs.Words.{nextOf, lostOf}
 use Rattle.engines.specs.Nodes.{inc, noNode, resetRound, tickedAll, setsOf}
@@ -31,7 +31,7 @@ use Rattle.pipeline.specs.declared.flood.FloodRun.{FloodRun}
 
 -- The slots that were given, or else the diameter and two more for each repeat, but three at least. (No diameter reaches 64.)
 unfoldable pub floodLength : Bool → ℕ → ℕ → ℕ → ℕ
-floodLength given slots diameter repeats = either given slots (max 3 ((few diameter + 2) * repeats))
+floodLength given slots diameter repeats = either given slots (max 3 ((atMost64 diameter + 2) * repeats))
 
 -- ---- who receives in a slot
 
@@ -101,7 +101,7 @@ unfoldable pub turnAt : ℕ → ℕ → ℕ → List Node → List Node
 turnAt repeats received i l = set l i (nextNode repeats (has received i) (getD l i noNode))
 
 unfoldable pub turnedAll : ℕ → ℕ → ℕ → List Node → List Node
-turnedAll n repeats received l = upto (few n) (turnAt repeats received) l
+turnedAll n repeats received l = upto (atMost64 n) (turnAt repeats received) l
 
 -- ---- a slot
 
@@ -151,7 +151,7 @@ unfoldable pub resetAt : ℕ → List Node → List Node
 resetAt i l = set l i (resetRound (getD l i noNode))
 
 unfoldable pub resetAll : ℕ → List Node → List Node
-resetAll n l = upto (few n) resetAt l
+resetAll n l = upto (atMost64 n) resetAt l
 
 abbrev pub startedBy : ℕ → ℕ → List Node → List Node
 startedBy initiator repeats l = set l initiator (inState (getD l initiator noNode) Flood repeats)

@@ -10,7 +10,7 @@ use Rattle.loops.specs.Pick.{either}
 use Rattle.loops.specs.Upto.{upto}
 use Rattle.loops.specs.Downto.{downto}
 use Rattle.marks.specs.Marks.{has, marks, allOf}
-use Rattle.engines.specs.Limits.{few}
+use Rattle.engines.specs.Limits.{atMost64}
 use Rattle.engines.specs.Marked.{overMarks, withMark}
 use Rattle.engines.specs.Words.{nextOf, lostOf}
 use Rattle.engines.specs.declared.words.Draw.{Draw}
@@ -41,14 +41,14 @@ unfoldable pub loggedAt : List LogEntry → ℕ → ℕ → ℕ
 loggedAt l k m = withMark m (getD l k noEntry .tx)
 
 unfoldable pub loggedOf : TxLog → ℕ
-loggedOf g = upto (few (g .len)) (loggedAt (g .entries)) 0
+loggedOf g = upto (atMost64 (g .len)) (loggedAt (g .entries)) 0
 
 -- The outcome of the first entry with this transaction: from the last entry to the first, the later finding stands.
 unfoldable pub outcomeAt : List LogEntry → ℕ → ℕ → Bool → Bool
 outcomeAt l t k o = either (eqb (getD l (k - 1) noEntry .tx) t) (getD l (k - 1) noEntry .committed) o
 
 unfoldable pub outcomeOf : TxLog → ℕ → Bool
-outcomeOf g t = downto (few (g .len)) (outcomeAt (g .entries) t) false
+outcomeOf g t = downto (atMost64 (g .len)) (outcomeAt (g .entries) t) false
 
 -- One entry more, behind the others, where there is room for it.
 unfoldable pub pushed : ℕ → Bool → TxLog → TxLog
@@ -106,7 +106,7 @@ unfoldable pub gapAt : ℕ → ℕ → ℕ → ℕ
 gapAt known t g = either (eqb g 64 && not (has known t)) t g
 
 unfoldable pub gapOf : ℕ → NodeTwoPcState → ℕ
-gapOf current s = upto (few current) (gapAt (joinMarks (loggedOf (s .log)) (s .pending))) 64
+gapOf current s = upto (atMost64 current) (gapAt (joinMarks (loggedOf (s .log)) (s .pending))) 64
 
 -- Nack 0 means that nothing is asked for.
 unfoldable pub nackOf : ℕ → NodeTwoPcState → ℕ

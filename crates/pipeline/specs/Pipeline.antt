@@ -18,7 +18,7 @@ use Rattle.packets.specs.declared.PiggybackTx.the-variants as tx
 use Rattle.packets.specs.declared.PiggybackState.{PiggybackState}
 use Rattle.packets.specs.declared.PiggybackState.the-variants as state
 use Rattle.packets.specs.declared.TwoPcPacket.{TwoPcPacket}
-use Rattle.engines.specs.Limits.{few}
+use Rattle.engines.specs.Limits.{atMost64}
 use Rattle.engines.specs.Marked.{overMarks, withMark}
 use Rattle.engines.specs.Nodes.{inc, noNode, sleeps}
 use Rattle.pipeline.specs.Pending.{loggedOf, outcomeOf, pushed, finalizeTx, unanimousOf, openTx, mergeVotes, mergeAbort, nackOf, voteOf, isJudged, judged, fastOf, abortAll, ownVote}
@@ -255,7 +255,7 @@ shorterAt ss i m = min m (getD ss i noState .log .len)
 
 -- (a log has at most 64 entries)
 unfoldable pub shortestLog : ℕ → List NodeTwoPcState → ℕ
-shortestLog n ss = upto (few n) (shorterAt ss) 64
+shortestLog n ss = upto (atMost64 n) (shorterAt ss) 64
 
 -- Everybody's progress, and whether its own log is complete.
 abbrev pub progressed : ℕ → Bool → Node → Node
@@ -275,7 +275,7 @@ unfoldable pub progressAt : ℕ → ℕ → List NodeTwoPcState → ℕ → List
 progressAt t done ss i l = set l i (progressed done (leb t (getD ss i noState .log .len)) (getD l i noNode))
 
 unfoldable pub progressAll : ℕ → ℕ → ℕ → List NodeTwoPcState → List Node → List Node
-progressAll n t done ss l = upto (few n) (progressAt t done ss) l
+progressAll n t done ss l = upto (atMost64 n) (progressAt t done ss) l
 
 -- The room stops once everybody has finished all transactions, and all were generated; or when it has idled for more than a
 -- thousand rounds. (Everybody has finished all just if the shortest log has all.)

@@ -8,7 +8,7 @@ use lib.ListN.{length, getD}
 use Rattle.loops.specs.Runs.{runs}
 use Rattle.marks.specs.Marks.{countOf}
 use Rattle.merges.specs.Votes.{mul64}
-use Rattle.engines.specs.Limits.{few}
+use Rattle.engines.specs.Limits.{atMost64}
 use Rattle.engines.specs.Nodes.{noNode, isFlood, setsOf}
 use Rattle.engines.specs.Stretch.{add64, passedAll}
 use Rattle.engines.specs.declared.node.Node.{Node}
@@ -31,7 +31,7 @@ pub record Quiet (links : List ℕ) (conf : FloodConf) (k : ℕ) (f : FloodRun) 
   pub going : f .over ≡ false
   pub rows : f .slot + k ≤ f .next
   pub some : nobodyFloods (conf .n) (f .at) ≡ false
-  pub alone : (i : ℕ) → i < few (conf .n) → Alone (getD links i 0) (setsOf (conf .n) (f .at) .listening) k (getD (f .at) i noNode)
+  pub alone : (i : ℕ) → i < atMost64 (conf .n) → Alone (getD links i 0) (setsOf (conf .n) (f .at) .listening) k (getD (f .at) i noNode)
 
 -- ---- what they come to
 
@@ -60,7 +60,7 @@ pub record QuietFor (row listening most : ℕ) (v : Node) (r : ℕ) : Type 0 whe
 -- the same of the first n positions
 pub record QuietOf (links : List ℕ) (n listening most : ℕ) (l : List Node) (r : ℕ) : Type 0 where
   pub within : r ≤ most
-  pub alone : 0 < r → (i : ℕ) → i < few n → Alone (getD links i 0) listening r (getD l i noNode)
+  pub alone : 0 < r → (i : ℕ) → i < atMost64 n → Alone (getD links i 0) listening r (getD l i noNode)
 
 -- and of a round with `left` slots to go
 pub record QuietSlots (links : List ℕ) (conf : FloodConf) (left : ℕ) (f : FloodRun) (r : ℕ) : Type 0 where

@@ -11,7 +11,7 @@ use Rattle.loops.specs.Upto.{upto}
 use Rattle.marks.specs.Marks.{has}
 use Rattle.packets.specs.Packets.{pipelineText, pipelineWithin}
 use Rattle.packets.specs.Writing.{textLen}
-use Rattle.engines.specs.Limits.{few}
+use Rattle.engines.specs.Limits.{atMost64}
 use Rattle.engines.specs.Marked.{overMarks}
 use Rattle.engines.specs.Nodes.{inc, noNode, setsOf}
 use Rattle.engines.specs.Rows.{rowsRefused}
@@ -85,7 +85,7 @@ unfoldable pub coverAt : RoundPacket → ℕ → List RoundPacket → ℕ → �
 coverAt q holding ps i k = either (isCovered q holding ps i) (inc k) k
 
 unfoldable pub coveredOf : RoundPacket → ℕ → ℕ → List RoundPacket → ℕ
-coveredOf q n holding ps = upto (few n) (coverAt q holding ps) 0
+coveredOf q n holding ps = upto (atMost64 n) (coverAt q holding ps) 0
 
 -- ---- the parts of a round
 

@@ -125,7 +125,7 @@ fn of_node(d: u64, v: Node) -> u64 {
     step(e, v.slots_sleep)
 }
 
-fn few(n: usize) -> usize {
+fn atMost64(n: usize) -> usize {
     if 64 < n { 64 } else { n }
 }
 
@@ -139,7 +139,7 @@ fn entry_at(g: TxLog, i: usize) -> u64 {
 }
 
 fn of_log(d: u64, g: TxLog) -> u64 {
-    let count = few(g.len);
+    let count = atMost64(g.len);
     let mut e = step(d, g.len as u64);
     let mut i: usize = 0;
     while i < count {
@@ -184,7 +184,7 @@ fn of_position(d: u64, p: Pipeline, i: usize) -> u64 {
 }
 
 fn of_positions(d: u64, p: Pipeline, n: usize) -> u64 {
-    let count = few(n);
+    let count = atMost64(n);
     let mut e = d;
     let mut i: usize = 0;
     while i < count {
@@ -212,7 +212,7 @@ fn of_record(d: u64, b: Book, txs: Txs, i: usize) -> u64 {
 
 fn of_records(d: u64, b: Book, txs: Txs) -> u64 {
     let g = b.log;
-    let count = few(g.len);
+    let count = atMost64(g.len);
     let mut e = d;
     let mut i: usize = 0;
     while i < count {
@@ -267,7 +267,7 @@ fn add_node(s: Sums, at: [Node; 64], i: usize) -> Sums {
 }
 
 fn sum_up(at: [Node; 64], n: usize) -> Sums {
-    let count = few(n);
+    let count = atMost64(n);
     let mut s = Sums {
         listen: 0,
         flood: 0,
@@ -282,7 +282,7 @@ fn sum_up(at: [Node; 64], n: usize) -> Sums {
 }
 
 fn say_log(g: TxLog) {
-    let count = few(g.len);
+    let count = atMost64(g.len);
     say(g.len as u64);
     let mut i: usize = 0;
     while i < count {

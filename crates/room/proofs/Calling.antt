@@ -19,7 +19,7 @@ use Rattle.merges.specs.declared.merging.Payload.{Payload}
 use Rattle.merges.proofs.Safety.{either-cases, proposes-sound}
 use Rattle.merges.proofs.Growth.{proposal-term}
 use Rattle.merges.proofs.Limits.{proposes-valid}
-use Rattle.engines.specs.Limits.{few}
+use Rattle.engines.specs.Limits.{atMost64}
 use Rattle.engines.specs.Nodes.{inc, tickedAll}
 use Rattle.engines.specs.Turns.{started, startedAll, turned, turnOf, turnedAll}
 use Rattle.engines.specs.Ce.{toldAll}
@@ -163,7 +163,7 @@ acted-slot ws r c i h =
       inv = record {
         size = i .size;
         counts = later h
-            (all-counts (turnOf (c .slot) (newsOf p t)) (λ j v. record { listen = refl; flood = refl; sleep = refl }) (few (sizeOf r)) (tickedAll (sizeOf r) (c .nodes))
+            (all-counts (turnOf (c .slot) (newsOf p t)) (λ j v. record { listen = refl; flood = refl; sleep = refl }) (atMost64 (sizeOf r)) (tickedAll (sizeOf r) (c .nodes))
             (ticked-counts (c .nodes) (i .size) (omega arith) (i .counts)));
         term = i .term;
         held = told-good (conf .voting) (r .terms .term) (p .hears) (c .held) (i .size) (i .held);
@@ -192,7 +192,7 @@ start-quiet r cursor i =
     record {
       inv = record {
         size = i .size;
-        counts = all-counts (started (r .terms .initiator) (r .slot)) (λ j v. record { listen = refl; flood = refl; sleep = refl }) (few (sizeOf r)) (r .nodes) (i .counts);
+        counts = all-counts (started (r .terms .initiator) (r .slot)) (λ j v. record { listen = refl; flood = refl; sleep = refl }) (atMost64 (sizeOf r)) (r .nodes) (i .counts);
         term = i .term;
         held = i .held;
       };
@@ -207,7 +207,7 @@ end-quiet r c i =
       inv = record {
         size = i .size;
         counts = either-cases (λ (l : List Node). Counts (sizeOf r) (c .slot) l) (c .ended && not (r .terms .raised))
-            (λ e. all-counts (λ j v. raised v) (λ j v. record { listen = refl; flood = refl; sleep = refl }) (few (sizeOf r)) (c .nodes) (i .counts))
+            (λ e. all-counts (λ j v. raised v) (λ j v. record { listen = refl; flood = refl; sleep = refl }) (atMost64 (sizeOf r)) (c .nodes) (i .counts))
             (λ e. i .counts);
         term = i .term;
         held = i .held;

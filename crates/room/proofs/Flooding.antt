@@ -9,7 +9,7 @@ use borrow.Author.Tests.{eqb-true}
 use Rattle.loops.specs.Pick.{either}
 use Rattle.marks.specs.Marks.{has}
 use Rattle.merges.proofs.Safety.{either-cases}
-use Rattle.engines.specs.Limits.{few}
+use Rattle.engines.specs.Limits.{atMost64}
 use Rattle.engines.specs.Nodes.{resetRound, setsOf, tickedAll}
 use Rattle.engines.specs.declared.words.Draw.{Draw}
 use Rattle.engines.specs.declared.node.Node.{Node}
@@ -44,7 +44,7 @@ flood-slot ws r i prep f v h =
       inv = record {
         size = v .size;
         counts = later h
-            (all-counts (λ j. nextNode repeats (has (p .received) j)) (λ j. next-alike repeats (has (p .received) j)) (few (sizeOf r)) l
+            (all-counts (λ j. nextNode repeats (has (p .received) j)) (λ j. next-alike repeats (has (p .received) j)) (atMost64 (sizeOf r)) l
             (ticked-counts (f .at) (v .size) (omega arith) (v .counts)));
         term = v .term;
         held = v .held;
@@ -57,7 +57,7 @@ flood-slot ws r i prep f v h =
 start-counts : {n slot : ℕ} (m i repeats : ℕ) (l : List Node) → Counts n slot l → Counts n slot (floodStart m i repeats l)
 unfolding floodStart resetAll resetAt
 start-counts {n} {slot} m i repeats l c =
-    let fresh : Counts n slot (resetAll m l) = all-counts (λ j. resetRound) (λ j. reset-alike) (few m) l c in
+    let fresh : Counts n slot (resetAll m l) = all-counts (λ j. resetRound) (λ j. reset-alike) (atMost64 m) l c in
     either-cases (λ (t : List Node). Counts n slot t) (ltb i 64)
     (λ e. kept-counts (λ v. inState v Flood repeats) (λ v. record { listen = refl; flood = refl; sleep = refl }) (resetAll m l) i fresh)
     (λ e. fresh)
@@ -87,7 +87,7 @@ closed-quiet ws r i prep f v =
     record {
       inv = record {
         size = v .size;
-        counts = all-counts (λ j. progressed _ (leb (r .conf .transactions) (getD (x .states) j noState .log .len))) (λ j w. record { listen = refl; flood = refl; sleep = refl }) (few (sizeOf r)) (f .at) (v .counts);
+        counts = all-counts (λ j. progressed _ (leb (r .conf .transactions) (getD (x .states) j noState .log .len))) (λ j w. record { listen = refl; flood = refl; sleep = refl }) (atMost64 (sizeOf r)) (f .at) (v .counts);
         term = v .term;
         held = v .held;
       };

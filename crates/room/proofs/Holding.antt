@@ -8,7 +8,7 @@ use lib.ListN.{getD, set}
 use native.Mathlib.Omega.{arith}
 use Rattle.loops.specs.Upto.{upto-holds}
 use Rattle.merges.specs.Votes.{noOf}
-use Rattle.merges.specs.Merging.{Noes, mergeOf, nobody}
+use Rattle.merges.specs.Merging.{Noes, mergeOf, noPayload}
 use Rattle.merges.specs.Sound.{SoundHeld, ValidHeld, Grew, Grown}
 use Rattle.merges.specs.declared.votes.Voting.{Voting}
 use Rattle.packets.specs.declared.CeTwoPcPacket.{CeTwoPcPacket}
@@ -19,9 +19,9 @@ use Rattle.merges.specs.declared.merging.Merged.{Merged}
 use Rattle.merges.proofs.Safety.{either-cases, merges-sound}
 use Rattle.merges.proofs.Growth.{merges-grow, merges-keep-term, empty-adopts, nothing-heard}
 use Rattle.merges.proofs.Limits.{merges-valid}
-use Rattle.engines.specs.Limits.{few}
+use Rattle.engines.specs.Limits.{atMost64}
 use Rattle.engines.specs.Ce.{hearingOf, toldAt, toldAll}
-use Rattle.engines.specs.declared.ce.Tellings.{Tellings}
+use Rattle.engines.specs.declared.ce.SlotMerges.{SlotMerges}
 
 -- ---- the order of packets
 
@@ -55,7 +55,7 @@ pub record Good (nay : Noes) (n t : ℕ) (l : Payload) : Type 0 where
   pub valid : ValidHeld l
 
 abbrev pub AllGood : Noes → ℕ → ℕ → List Payload → Type 0
-AllGood nay n t ls = (v : ℕ) → Good nay n t (getD ls v nobody)
+AllGood nay n t ls = (v : ℕ) → Good nay n t (getD ls v noPayload)
 
 -- a packet at l has grown to one at m
 abbrev pub Follows : Payload → Payload → Type 0
@@ -89,7 +89,7 @@ module _ (nay : Noes) (n t v : ℕ) (l r : Payload) where
 
 -- ---- a list of payloads, one of which is replaced
 
-pub set-each : (Q : ℕ → Payload → Type 0) (ls : List Payload) (i : ℕ) (x : Payload) → ((v : ℕ) → Q v (getD ls v nobody)) → Q i x → (v : ℕ) → Q v (getD (set ls i x) v nobody)
+pub set-each : (Q : ℕ → Payload → Type 0) (ls : List Payload) (i : ℕ) (x : Payload) → ((v : ℕ) → Q v (getD ls v noPayload)) → Q i x → (v : ℕ) → Q v (getD (set ls i x) v noPayload)
 set-each Q [] i x h q v = h v
 set-each Q (y ∷ ls) zero x h q zero = q
 set-each Q (y ∷ ls) zero x h q (suc v) = h (suc v)
@@ -102,28 +102,28 @@ module _ (s : Voting) (t : ℕ) (hears : List ℕ) (held : List Payload) (size :
   -- the position v holds m now
   record Heard (v : ℕ) (m : Payload) : Type 0 where
     good-now : Good (noOf s) (s .n) t m
-    follows : Follows (getD held v nobody) m
+    follows : Follows (getD held v noPayload) m
 
   hearing : (v : ℕ) → v < s .n → Heard v (hearingOf s hears held v .payload)
   unfolding hearingOf
   hearing v h =
       either-cases (λ (m : Merged). Heard v (m .payload)) (ltb (getD hears v 0) 64)
       (λ x. record {
-        good-now = merge-good (noOf s) (s .n) t v (getD held v nobody) (getD held (getD hears v 0) nobody) h size (good v) (good (getD hears v 0));
-        follows = λ p. merges-grow (noOf s) (s .n) v (getD held v nobody) (getD held (getD hears v 0) nobody) p;
+        good-now = merge-good (noOf s) (s .n) t v (getD held v noPayload) (getD held (getD hears v 0) noPayload) h size (good v) (good (getD hears v 0));
+        follows = λ p. merges-grow (noOf s) (s .n) v (getD held v noPayload) (getD held (getD hears v 0) noPayload) p;
       })
-      (λ x. record { good-now = good v; follows = λ p. grown-same (getD held v nobody) p })
+      (λ x. record { good-now = good v; follows = λ p. grown-same (getD held v noPayload) p })
 
-  heard-all : (v : ℕ) → Heard v (getD (toldAll s hears held .held) v nobody)
+  heard-all : (v : ℕ) → Heard v (getD (toldAll s hears held .held) v noPayload)
   unfolding toldAll toldAt
   heard-all =
-      upto-holds (λ (x : Tellings). (v : ℕ) → Heard v (getD (x .held) v nobody)) (toldAt s hears held) (few (s .n))
+      upto-holds (λ (x : SlotMerges). (v : ℕ) → Heard v (getD (x .held) v noPayload)) (toldAt s hears held) (atMost64 (s .n))
       (λ i x h p. set-each Heard (x .held) i (hearingOf s hears held i .payload) p (hearing i (omega arith)))
       (record { held = held; «new_info» = 0; «goal_reached» = 0; «can_sleep» = 0 })
-      (λ v. record { good-now = good v; follows = λ p. grown-same (getD held v nobody) p })
+      (λ v. record { good-now = good v; follows = λ p. grown-same (getD held v noPayload) p })
 
   pub told-good : AllGood (noOf s) (s .n) t (toldAll s hears held .held)
   told-good v = heard-all v .good-now
 
-  pub told-follows : (v : ℕ) → Follows (getD held v nobody) (getD (toldAll s hears held .held) v nobody)
+  pub told-follows : (v : ℕ) → Follows (getD held v noPayload) (getD (toldAll s hears held .held) v noPayload)
   told-follows v = heard-all v .follows

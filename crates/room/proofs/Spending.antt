@@ -22,7 +22,7 @@ use Rattle.room.specs.Rooms.{isPipeline, sizeOf, openRefusal, confOf, no
 -- a room of at most t transactions, within the limits, that has accepted k rounds
 pub record Within (t k : ℕ) (r : Room) : Type 0 where
   pub transactions : r .conf .transactions ≤ t
-  pub few : r .conf .transactions ≤ 64
+  pub atMost64 : r .conf .transactions ≤ 64
   pub spent : Spent (r .conf .transactions) k (r .rounds .stop) (r .rounds .round)
 
 -- such rooms are few rounds old, and one that goes on has a round left
@@ -49,7 +49,7 @@ module _ (t k : ℕ) (r : Room) (w : Within t k r) where
       m = proposeRefusal (sizeOf r) v (r .conf .kind) (r .terms .term)
 
       by : (b : Bool) → Within t (k + 0) (either {A = Proposal} b (record { refusal = 0; room = withTerms r (proposedIn (r .conf) (r .terms) v) }) (record { refusal = m; room = r }) .room)
-      by true = let x = more w in record { transactions = x .transactions; few = x .few; spent = x .spent }
+      by true = let x = more w in record { transactions = x .transactions; atMost64 = x .atMost64; spent = x .spent }
       by false = more w
 
   pub capture-within : (ws : List ℕ) (numbers used cursor : ℕ) → Within t (k + 0) (captureOf ws numbers used r cursor .room)
@@ -60,7 +60,7 @@ module _ (t k : ℕ) (r : Room) (w : Within t k r) where
       x = more w
 
       late : (b : Bool) → Within t (k + 0) (either {A = Round} b (record { refusal = 0; cursor = ceAnswer ws numbers used r cursor .state .draw .at; used = ceAnswer ws numbers used r cursor .used; room = afterCapture r (ceAnswer ws numbers used r cursor .state) }) (refusedRound (ceAnswer ws numbers used r cursor .refusal) r cursor used) .room)
-      late true = record { transactions = x .transactions; few = x .few; spent = x .spent }
+      late true = record { transactions = x .transactions; atMost64 = x .atMost64; spent = x .spent }
       late false = x
 
       early : (b : Bool) → Within t (k + 0) (either b (capturedBy r cursor used (ceAnswer ws numbers used r cursor)) (refusedRound (captureEarly r) r cursor used) .room)
@@ -78,13 +78,13 @@ module _ (t k : ℕ) (r : Room) (w : Within t k r) where
       by true e =
           record {
             transactions = w .transactions;
-            few = w .few;
-            spent = answer-spent ws numbers used (pipeConf (r .conf)) (pipeOf r) cursor k (w .few) (w .spent);
+            atMost64 = w .atMost64;
+            spent = answer-spent ws numbers used (pipeConf (r .conf)) (pipeOf r) cursor k (w .atMost64) (w .spent);
           }
       by false e =
           record {
             transactions = w .transactions;
-            few = w .few;
+            atMost64 = w .atMost64;
             spent = spent-refused (r .conf .transactions) k (r .rounds .stop) (r .rounds .round) (pipelineEarly r) e (w .spent);
           }
 
@@ -122,5 +122,5 @@ opened-within kind links s transactions term interval bound = by (eqb m 0) refl
 
     by : (b : Bool) → eqb m 0 ≡ b
         → Within transactions 0 (either {A = Opening} b (record { refusal = 0; room = newRoom (confOf kind (rowsOf links .graph) s transactions interval bound) term }) (record { refusal = m; room = newRoom (noConf kind s) 0 }) .room)
-    by true e = record { transactions = omega arith; few = few-transactions kind (rowsOf links .refusal) s transactions interval e; spent = (refl, omega arith) }
-    by false e = record { transactions = omega arith; few = omega arith; spent = (refl, omega arith) }
+    by true e = record { transactions = omega arith; atMost64 = few-transactions kind (rowsOf links .refusal) s transactions interval e; spent = (refl, omega arith) }
+    by false e = record { transactions = omega arith; atMost64 = omega arith; spent = (refl, omega arith) }

@@ -11,7 +11,7 @@ use Rattle.marks.specs.Marks.{has}
 use Rattle.graph.specs.Links.{isSize, positionRefusal}
 use Rattle.packets.specs.Packets.{ceText, ceWithin, pipelineText, pipelineWithin}
 use Rattle.packets.specs.Writing.{wroteOf, leftOf}
-use Rattle.merges.specs.Merging.{nobody, outcomeOf}
+use Rattle.merges.specs.Merging.{noPayload, outcomeOf}
 use Rattle.packets.specs.declared.Wrote.{Wrote}
 use Rattle.packets.specs.declared.CeTwoPcPacket.{CeTwoPcPacket}
 use Rattle.packets.specs.declared.TwoPcPacket.{TwoPcPacket}
@@ -185,7 +185,7 @@ pipeLeft n holds q out = either holds (leftOf (pipelineWithin (packetOf n q)) (p
 
 unfoldable pub textBy : Room → ℕ → List ℕ → RoomKind → TextReading
 textBy r v out kinds.Pipeline = pipeAnswerOf (sizeOf r) (has (r .rounds .holding) v) (getD (r .rounds .payloads) v noPacket) out
-textBy r v out kinds.Capture = ceAnswer (getD (r .terms .held) v nobody) out
+textBy r v out kinds.Capture = ceAnswer (getD (r .terms .held) v noPayload) out
 
 unfoldable pub textOf : Room → ℕ → List ℕ → TextReading
 textOf r v out =
@@ -194,7 +194,7 @@ textOf r v out =
 
 unfoldable pub leftBy : Room → ℕ → List ℕ → RoomKind → List ℕ
 leftBy r v out kinds.Pipeline = pipeLeft (sizeOf r) (has (r .rounds .holding) v) (getD (r .rounds .payloads) v noPacket) out
-leftBy r v out kinds.Capture = ceLeft (getD (r .terms .held) v nobody) out
+leftBy r v out kinds.Capture = ceLeft (getD (r .terms .held) v noPayload) out
 
 unfoldable pub textLeft : Room → ℕ → List ℕ → List ℕ
 textLeft r v out = either (eqb (positionRefusal (sizeOf r) v) 0) (leftBy r v out (r .conf .kind)) out

@@ -12,13 +12,13 @@ use Rattle.graph.specs.Paths.{lengthOf}
 use Rattle.graph.specs.declared.network.NetworkGraph.{NetworkGraph}
 use Rattle.graph.specs.declared.network.Built.{Built}
 use Rattle.merges.specs.Votes.{add64, noOf}
-use Rattle.merges.specs.Merging.{nobody, proposalOf}
+use Rattle.merges.specs.Merging.{noPayload, proposalOf}
 use Rattle.packets.specs.declared.TwoPcPhase.the-variants.{Prepare}
 use Rattle.packets.specs.declared.CeTwoPcPacket.{CeTwoPcPacket}
 use Rattle.merges.specs.declared.merging.Held.the-variants.{Empty, Packet}
 use Rattle.merges.specs.declared.merging.Payload.{Payload}
 use Rattle.merges.specs.declared.votes.Voting.{Voting}
-use Rattle.engines.specs.Limits.{few}
+use Rattle.engines.specs.Limits.{atMost64}
 use Rattle.engines.specs.Settings.{lossAccepted}
 use Rattle.engines.specs.Nodes.{inc, noNode}
 use Rattle.engines.specs.Metrics.{noMetrics}
@@ -64,7 +64,7 @@ noesOf c = noOf (votingIn c)
 
 -- what position v holds
 abbrev pub heldAt : Room → ℕ → Payload
-heldAt r v = getD (r .terms .held) v nobody
+heldAt r v = getD (r .terms .held) v noPayload
 
 -- ---- opening ("Refusals from the input", 2 to 7)
 
@@ -225,7 +225,7 @@ abbrev pub raiseAt : ℕ → List Node → List Node
 raiseAt i l = set l i (raised (getD l i noNode))
 
 unfoldable pub raisedAll : ℕ → List Node → List Node
-raisedAll n l = upto (few n) raiseAt l
+raisedAll n l = upto (atMost64 n) raiseAt l
 
 -- the room that a state of the engine is, within a round
 abbrev pub withHeld : Terms → Bool → List Payload → Terms

@@ -5,14 +5,14 @@ use native.Mathlib.Omega.{arith}
 use borrow.Author.Needs.{needs}
 use Rattle.loops.specs.Upto.{upto, upto-none, upto-turn, upto-all}
 use Rattle.engines.specs.Ce.{notedIf, toldAt, toldAll}
-use Rattle.engines.specs.declared.ce.Tellings.{Tellings}
-use Rattle.engines.specs.Limits.{few}
+use Rattle.engines.specs.declared.ce.SlotMerges.{SlotMerges}
+use Rattle.engines.specs.Limits.{atMost64}
 use Rattle.engines.proofs.Telling.{hearing-is, told-is}
 use Rattle.engines.proofs.ce.tell_all.Statement.{statement}
 use Rattle.engines.proofs.ce.tell_all.Tie as tie
 
 abbrev Inv-loop : tie.InvT-loop
-Inv-loop voting held hears count after₀ new-info₀ goal-reached₀ can-sleep₀ i₀ after new-info goal-reached can-sleep i = (count ≡ few (voting .n)) × (i ≤ count) × (record { held = after; «new_info» = new-info; «goal_reached» = goal-reached; «can_sleep» = can-sleep } ≡ upto i (toldAt voting hears held) (record { held = held; «new_info» = 0; «goal_reached» = 0; «can_sleep» = 0 }))
+Inv-loop voting held hears count after₀ new-info₀ goal-reached₀ can-sleep₀ i₀ after new-info goal-reached can-sleep i = (count ≡ atMost64 (voting .n)) × (i ≤ count) × (record { held = after; «new_info» = new-info; «goal_reached» = goal-reached; «can_sleep» = can-sleep } ≡ upto i (toldAt voting hears held) (record { held = held; «new_info» = 0; «goal_reached» = 0; «can_sleep» = 0 }))
 
 abbrev μ-loop : tie.MeasureT-loop
 μ-loop voting held hears count after₀ new-info₀ goal-reached₀ can-sleep₀ i₀ after new-info goal-reached can-sleep i = count - i
@@ -48,7 +48,7 @@ tell-all-spec =
     (λ c. search needs)
     (λ c. let l = c .before .before .before .before .before .before .before .before .before .before .before in
     let s = c .before .before .before .before .before .before .before .before .before .before .before .before .before in
-    let t : Tellings = record { held = l .loop .after; «new_info» = l .loop .new-info; «goal_reached» = l .loop .goal-reached; «can_sleep» = l .loop .can-sleep } in (
+    let t : SlotMerges = record { held = l .loop .after; «new_info» = l .loop .new-info; «goal_reached» = l .loop .goal-reached; «can_sleep» = l .loop .can-sleep } in (
       l .loop .inv .0,
       omega arith,
       upto-turn _ _ (l .loop .inv .2)

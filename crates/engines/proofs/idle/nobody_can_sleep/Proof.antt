@@ -5,12 +5,12 @@ use native.Mathlib.Omega.{arith}
 use lib.ListN.{getD}
 use borrow.Author.Count.{below-more}
 use borrow.Author.Needs.{needs}
-use Rattle.merges.specs.Merging.{nobody, canSleepOf}
+use Rattle.merges.specs.Merging.{noPayload, canSleepOf}
 use Rattle.engines.proofs.idle.nobody_can_sleep.Statement.{statement}
 use Rattle.engines.proofs.idle.nobody_can_sleep.Tie as tie
 
 abbrev Inv-loop : tie.InvT-loop
-Inv-loop n held count i₀ i = (i ≤ count) × ((j : ℕ) → j < i → canSleepOf n (getD held j nobody) ≡ false)
+Inv-loop n held count i₀ i = (i ≤ count) × ((j : ℕ) → j < i → canSleepOf n (getD held j noPayload) ≡ false)
 
 abbrev μ-loop : tie.MeasureT-loop
 μ-loop n held count i₀ i = count - i

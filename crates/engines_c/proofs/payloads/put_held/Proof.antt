@@ -3,7 +3,7 @@ use Prim.Native.Nat.{_*_, _≤_, _-_}
 use native.Mathlib.Omega.{arith}
 use lib.ListN.{length, getD}
 use Rattle.loops.specs.Upto.{upto, upto-none, upto-turn, upto-all, upto-keeps}
-use Rattle.merges.specs.Merging.{nobody}
+use Rattle.merges.specs.Merging.{noPayload}
 use Rattle.engines_c.specs.Payloads.{putPlace, putHeld}
 use Rattle.engines_c.proofs.Storing.{put-payload-length}
 use borrow.Author.Needs.{needs}
@@ -36,5 +36,5 @@ put-held-spec =
     (λ c. (omega arith, upto-turn _ _ (c .before .before .before .before .before .before .loop .inv .1) (c .before .before .put-payload .ensures)))
     (λ c. ap length (c .before .loop .inv .1) ∙
     upto-keeps length (putPlace (c .before .before .before .args .at) (c .before .before .before .args .t3)) (c .before .before .before .args .xs .now) (c .before .loop .i)
-    (λ i t. put-payload-length (c .before .before .before .args .at) (i * 38) (getD (c .before .before .before .args .t3) i nobody) t))
+    (λ i t. put-payload-length (c .before .before .before .args .at) (i * 38) (getD (c .before .before .before .args .t3) i noPayload) t))
     returns)

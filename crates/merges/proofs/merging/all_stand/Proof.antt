@@ -7,13 +7,13 @@ use lib.Dec.{eqb}
 use lib.ListN.{getD}
 use Rattle.marks.specs.Marks.{allOf}
 use Rattle.marks.specs.Sets.{all-none, all-more, all-left, all-done}
-use Rattle.merges.specs.Merging.{standingOf, nobody, allHold}
+use Rattle.merges.specs.Merging.{standingOf, noPayload, allHold}
 use borrow.Author.Needs.{needs}
 use Rattle.merges.proofs.merging.all_stand.Statement.{statement}
 use Rattle.merges.proofs.merging.all_stand.Tie as tie
 
 abbrev Inv-loop : tie.InvT-loop
-Inv-loop n k payloads i₀ i = (i ≤ n) × (allOf i (λ j. eqb (standingOf (getD payloads j nobody)) k) ≡ true)
+Inv-loop n k payloads i₀ i = (i ≤ n) × (allOf i (λ j. eqb (standingOf (getD payloads j noPayload)) k) ≡ true)
 
 abbrev μ-loop : tie.MeasureT-loop
 μ-loop n k payloads i₀ i = n - i
