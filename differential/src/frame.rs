@@ -10,6 +10,8 @@ use ctsim::network::NetworkGraph;
 use rand_chacha::ChaCha8Rng;
 use std::collections::BTreeMap;
 use std::io::{Read, Write};
+use std::os::fd::OwnedFd;
+use std::os::unix::net::UnixDatagram;
 use std::process::{Command, Stdio};
 use std::time::{Duration, Instant};
 
@@ -729,6 +731,20 @@ fn fed(pieces: Vec<Vec<u8>>, pause: Option<Duration>) -> (Vec<u8>, bool) {
     (out, child.wait().unwrap().success())
 }
 
+/// What the program prints if every piece is a read of its own: a read takes one datagram, and an empty one is the input's end.
+fn fed_by_reads(pieces: &[&[u8]]) -> (Vec<u8>, bool) {
+    let (ours, its) = UnixDatagram::pair().unwrap();
+    let input = Stdio::from(OwnedFd::from(its));
+    let mut child = Command::new(planner()).stdin(input).stdout(Stdio::piped()).spawn().expect("planner does not start");
+    for p in pieces.iter().filter(|p| !p.is_empty()) {
+        ours.send(p).unwrap();
+    }
+    ours.send(&[]).unwrap();
+    let mut out = Vec::new();
+    child.stdout.take().unwrap().read_to_end(&mut out).unwrap();
+    (out, child.wait().unwrap().success())
+}
+
 fn input_of(items: &[Item], last_has_its_end: bool) -> Vec<u8> {
     let mut input = Vec::new();
     for (i, item) in items.iter().enumerate() {
@@ -789,6 +805,42 @@ fn last_lines(t: &mut Tally) {
         let shown = || format!("{:?}", &input[..input.len().min(200)]);
         t.same("how an input ends", input.len(), shown, &ours, &(due.to_string(), true));
     }
+}
+
+/// Small inputs cut into two reads at every place, and into a read for each byte; lines about as long as a frame may be in reads of up to 4 KB, the
+/// first of any length; and ten million random bytes.
+fn cuts(t: &mut Tally, r: &mut Prng) {
+    let a = "0202020001000000640000001400000000000000000000000000000000000000000000000005414C504841";
+    let due = |input: &[u8]| -> String {
+        let mut lines: Vec<&[u8]> = input.split(|b| *b == 10).collect();
+        if lines.last().is_some_and(|l| l.is_empty()) {
+            lines.pop();
+        }
+        lines.iter().map(|l| if *l == a.as_bytes() { "ALPHA 172\n" } else { "refused 1\n" }).collect()
+    };
+    let mut same = |input: &[u8], pieces: &[&[u8]]| {
+        let (out, well) = fed_by_reads(pieces);
+        let shown = || format!("{:?} in reads of {:?}", &input[..input.len().min(200)], pieces.iter().map(|p| p.len()).collect::<Vec<_>>());
+        t.same("cut into reads", input.len(), shown, &(String::from_utf8_lossy(&out).into_owned(), well), &(due(input), true));
+    };
+    for input in [format!("{a}\n\n{a}"), format!("{a}\r\n{a}\n"), format!("{a}\n\r\0\n\0"), "\n\n\n".into(), format!("\r{a}\n{}", &a[1..])] {
+        let input = input.as_bytes();
+        for place in 0..=input.len() {
+            same(input, &[&input[..place], &input[place..]]);
+        }
+        same(input, &input.chunks(1).collect::<Vec<_>>());
+    }
+    for long in [DIGITS - 1, DIGITS, DIGITS + 1, DIGITS + 2, 73_727, 73_728, 200_000] {
+        let input = format!("{a}\n{}\n{a}", "0".repeat(long));
+        let input = input.as_bytes();
+        for _ in 0..20 {
+            let (first, rest) = input.split_at(r.index(4096));
+            same(input, &std::iter::once(first).chain(rest.chunks(1 + r.index(4096))).collect::<Vec<_>>());
+        }
+    }
+    let noise: Vec<u8> = (0..10_000_000).map(|_| r.index(256) as u8).collect();
+    let (out, well) = fed(vec![noise.clone()], None);
+    t.same("random bytes", noise.len(), String::new, &(out == due(&noise).as_bytes(), well), &(true, true));
 }
 
 fn met(items: &[Item]) {
@@ -858,6 +910,7 @@ pub fn run(o: &Options) -> Tally {
         let bytes = input_of(&few, false).iter().map(|b| vec![*b]).collect();
         compare(&mut t, "a byte at a time", &few, fed(bytes, Some(Duration::from_micros(30))));
         last_lines(&mut t);
+        cuts(&mut t, &mut r);
         met(&all);
         bound(&mut t);
     }
@@ -969,6 +1022,9 @@ fn times() {
         ("capture, mesh of 8, loss 0.3, timeout 10, T 4, 1000 words", many(&capture(8, 4), 300, 1000, &mut r)),
         ("capture, mesh of 16, loss 0.3, timeout 10, T 2, 3740 words", many(&capture(16, 2), 100, 3740, &mut r)),
         ("capture, mesh of 32, loss 0.3, timeout 10, T 1, 3740 words", many(&capture(32, 1), 40, 3740, &mut r)),
+        ("pipeline, mesh of 2, loss 0, repeats 1, T 1, 10 words", {
+            many(&Frame { transactions: 1, span: 1, ..plain(1, 1, 2) }, 2000, 10, &mut r)
+        }),
         ("pipeline, mesh of 8, loss 0.3, repeats 2, T 8, 1000 words", many(&pipeline(8, 8), 300, 1000, &mut r)),
         ("pipeline, mesh of 16, loss 0.3, repeats 2, T 16, 3740 words", many(&pipeline(16, 16), 60, 3740, &mut r)),
         ("refused 1 at the last of 60000 digits", {

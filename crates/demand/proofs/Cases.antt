@@ -12,7 +12,7 @@ use Rattle.marks.specs.Marks.{marks, anyOf, allOf, countOf, marksOf}
 use Rattle.texts.specs.Decimal.{decimal, decimalF}
 use Rattle.texts.specs.Put.{written}
 use Rattle.texts.specs.Readers.{listText, itemsText}
-use Rattle.graph.specs.Links.{graphBy, builtOf, nextRule, meshRule, aheadOf, linkOf, topologyOf, inside, rowsOf}
+use Rattle.graph.specs.Links.{graphBy, builtOf, nextRule, meshRule, aheadOf, linkOf, topologyOf, inside, rowsOf, graphRefusal}
 use Rattle.graph.specs.Paths.{diameterOf, lengthOf}
 use Rattle.packets.specs.Packets.{ceText, bitmapText, dataText, limits, pipelineText, proposalData}
 use Rattle.merges.specs.Merging.{payloadOf, filledOf, markedOf, onlyOf, joinOf, joinNews, unanimousOf, rankOf, ensureOf, decidedOf, acknowledgedOf, voicedOf, settledOf, adoptedOf, raisedOf, ownOf, sameTermOf, outdated, heardOf, mergedBy, mergeOf, proposalOf, standingBy, goalOf, canSleepOf, allHold, networkGoalOf, outcomeOf}
@@ -23,15 +23,19 @@ use Rattle.engines.specs.Marked.{overMarks, withMark}
 use Rattle.engines.specs.Words.{nextOf, unitOf, coinOf, lostOf, pickOf, swapStep, shuffled}
 use Rattle.engines.specs.Nodes.{ticked, tickAt, tickedAll, listens, floods, sleeps, setsOf, resetRound}
 use Rattle.engines.specs.Rows.{highestProgress, rowOf, isDue, nextRow, rowsRefused}
-use Rattle.engines.specs.Plan.{timedOut, tossed1, coinsOf, noteAt, sendersOf, examine1, firstKept, heardFrom, captureOf as heardOfPlan, whom, tallied, captureAt, targetsOf, capturesOf, planAfter, planOf}
-use Rattle.engines.specs.Turns.{started, startedAll, nextState, turned, turnOf, turnedAll, countedSlot}
-use Rattle.engines.specs.Ce.{payloadLen, sentAt, sentOf, hearingOf, toldAt, toldAll}
-use Rattle.engines.specs.Capture.{begun, goalMet, acted, finished, slotOf, rowsDue, startOf, afterRound, refusalOf, answerOf}
+use Rattle.engines.specs.Metrics.{withFrames}
+use Rattle.engines.specs.Network.{newNetwork, ticking, slotRow, longRefusal, lateOf}
+use Rattle.capture.specs.Plan.{timedOut, tossed1, coinsOf, noteAt, sendersOf, examine1, firstKept, heardFrom, captureOf as heardOfPlan, whom, tallied, captureAt, targetsOf, capturesOf, planAfter, planOf}
+use Rattle.capture.specs.Turns.{started, startedAll, nextState, turned, turnOf, turnedAll, countedSlot}
+use Rattle.capture.specs.Ce.{payloadLen, sentAt, sentOf, hearingOf, toldAt, toldAll}
+use Rattle.capture.specs.Capture.{begun, goalMet, acted, finished, slotOf, startOf, afterRound, refusalOf, answerOf}
 use Rattle.pipeline.specs.Pending.{nackOf, joinMarks, commonMarks, withoutMark, loggedAt, loggedOf, outcomeAt, outcomeOf as loggedOutcome, pushed, finalizeTx, unanimousOf as allVoted, openTx, votesAt, mergeVotes, mergeAbort, gapAt, gapOf, voteOf, isJudged, judgeAt, judged, fastOf, abortAll, ownVote}
 use Rattle.pipeline.specs.Pipeline.{dataOf, packetOf, samePacket, recordTx, isFresh, beginTx, recordDue, recordJudged, abortOf, knownVotes, roundPacket, prepareRound, isNew, hearNew, mergeRound, recordAborts, takeUp, isAnswer, answerNack, processOne, partsOf, processAt, processAll, shorterAt, shortestLog, progressAt, progressAll, stopsAt}
-use Rattle.pipeline.specs.Flood.{floodLength, framed, hearAt, hearersOf, sendAt, floodPlan, afterFlood, afterListen, nextNode, turnAt, turnedAll as floodTurned, nobodyFloods, sentAfter, dueAfter, floodSlot, resetAt, resetAll, floodStart, floodRound}
-use Rattle.pipeline.specs.Round.{newPipeline, runRound, roundAnswer, deliverAll, isCovered, coverAt, coveredOf, initiatorOf, preparing, floodConf, floodFrom, closeRound, floodOf, earlyOf, lateOf, lateAnswer}
-use Rattle.room.specs.Rooms.{ranBy, pipelineOf, pipelineRefusal, openRefusal, roundLength, newRoom, openOf, proposeRefusal, proposedIn, proposeOf, raised, raisedAll, afterCapture, captureRefusal, capturedBy, captureOf}
+use Rattle.flood.specs.Flood.{floodLength, framed, hearAt, hearersOf, sendAt, floodPlan, afterFlood, afterListen, nextNode, turnAt, turnedAll as floodTurned, nobodyFloods, sentAfter, floodSlot, resetAt, resetAll, floodStart, floodRound, floodRows}
+use Rattle.pipeline.specs.Round.{newPart, runRound, rowsOfRound, roundRefusal, roundAnswer, deliverAll, isCovered, coverAt, coveredOf, initiatorOf, preparing, bytesOf, floodFrom, processing, closeRound, floodOf, earlyRefusal, lateRefusal}
+use Rattle.room.specs.Capturing.{proposeRefusal, proposedIn, proposePart, raised, raisedAll, networkAfter, captureRefusal, capturedBy, capturePart}
+use Rattle.room.specs.Pipelining.{pipelineRefusal, pipelinePart}
+use Rattle.room.specs.Rooms.{openRefusal, roundLength, newRoom, openOf, proposeOf, captureOf, pipelineOf}
 use Rattle.room.specs.Slots.{stagesFrom, captureSlots, pipelineSlots}
 use Rattle.demand.specs.Cases.{MinusZero, One, MarkedCases}
 use Rattle.demand.proofs.Resting.{alone-proposes, alone-ends}
@@ -49,17 +53,16 @@ one-not = refl
 
 minus-zero : MinusZero
 unfolding openOf openRefusal
-minus-zero kind links s transactions term interval bound l e p i t =
-    rw (l, e, minus-accepted, p, ne-eqb interval 0 (λ x. omega arith), le-ltb 64 transactions t)
+minus-zero a l e p i t = rw (l, e, minus-accepted, p, ne-eqb (a .interval) 0 (λ x. omega arith), le-ltb 64 (a .transactions) t)
 
 one : One
 unfolding openOf openRefusal
-one kind links s transactions term interval bound l e = rw (l, e, one-not)
+one a l e = rw (l, e, one-not)
 
 -- ---- the table
 
 pub marked-cases : MarkedCases
-unfolding upto downto go tell tabulate filled marks anyOf allOf countOf marksOf decimal decimalF written listText itemsText graphBy builtOf nextRule meshRule aheadOf linkOf topologyOf inside rowsOf ceText bitmapText dataText limits noOf hashOf shareOf filledOf markedOf onlyOf joinOf joinNews unanimousOf rankOf ensureOf decidedOf acknowledgedOf voicedOf settledOf adoptedOf raisedOf ownOf sameTermOf outdated heardOf mergedBy mergeOf proposalData proposalOf standingBy goalOf canSleepOf allHold networkGoalOf outcomeOf lossAccepted isLossy overMarks withMark nextOf unitOf coinOf lostOf pickOf swapStep shuffled ticked tickAt tickedAll listens floods sleeps setsOf highestProgress rowOf isDue nextRow timedOut tossed1 coinsOf noteAt sendersOf examine1 firstKept heardFrom heardOfPlan whom tallied captureAt targetsOf capturesOf planAfter planOf started startedAll nextState turned turnOf turnedAll countedSlot payloadLen sentAt sentOf hearingOf toldAt toldAll begun goalMet acted finished slotOf rowsDue startOf afterRound refusalOf answerOf openRefusal roundLength newRoom openOf proposeRefusal proposedIn proposeOf raised raisedAll afterCapture captureRefusal capturedBy captureOf stagesFrom captureSlots ofBits ofFields eq lt le div ofInt round units odd span climb size resetRound rowsRefused framed hearAt hearersOf sendAt floodPlan afterFlood afterListen nextNode turnAt floodTurned nobodyFloods sentAfter dueAfter floodSlot resetAt resetAll floodStart floodRound joinMarks commonMarks withoutMark loggedAt loggedOf outcomeAt loggedOutcome pushed finalizeTx allVoted openTx votesAt mergeVotes mergeAbort gapAt gapOf nackOf voteOf isJudged judgeAt judged fastOf abortAll ownVote dataOf packetOf samePacket recordTx isFresh beginTx recordDue recordJudged abortOf knownVotes roundPacket prepareRound isNew hearNew mergeRound recordAborts takeUp isAnswer answerNack processOne partsOf processAt processAll shorterAt shortestLog progressAt progressAll stopsAt deliverAll isCovered coverAt coveredOf initiatorOf preparing floodConf floodFrom closeRound floodOf runRound newPipeline pipelineText diameterOf lengthOf floodLength earlyOf lateOf lateAnswer roundAnswer pipelineRefusal ranBy pipelineOf pipelineSlots payloadOf
+unfolding upto downto go tell tabulate filled marks anyOf allOf countOf marksOf decimal decimalF written listText itemsText graphBy builtOf nextRule meshRule aheadOf linkOf topologyOf inside rowsOf ceText bitmapText dataText limits noOf hashOf shareOf filledOf markedOf onlyOf joinOf joinNews unanimousOf rankOf ensureOf decidedOf acknowledgedOf voicedOf settledOf adoptedOf raisedOf ownOf sameTermOf outdated heardOf mergedBy mergeOf proposalData proposalOf standingBy goalOf canSleepOf allHold networkGoalOf outcomeOf lossAccepted isLossy overMarks withMark nextOf unitOf coinOf lostOf pickOf swapStep shuffled ticked tickAt tickedAll listens floods sleeps setsOf highestProgress rowOf isDue nextRow timedOut tossed1 coinsOf noteAt sendersOf examine1 firstKept heardFrom heardOfPlan whom tallied captureAt targetsOf capturesOf planAfter planOf started startedAll nextState turned turnOf turnedAll countedSlot payloadLen sentAt sentOf hearingOf toldAt toldAll begun goalMet acted finished slotOf slotRow ticking startOf afterRound refusalOf answerOf openRefusal roundLength newRoom openOf proposeRefusal proposedIn proposePart proposeOf raised raisedAll networkAfter captureRefusal capturedBy capturePart captureOf stagesFrom captureSlots ofBits ofFields eq lt le div ofInt round units odd span climb size resetRound rowsRefused framed hearAt hearersOf sendAt floodPlan afterFlood afterListen nextNode turnAt floodTurned nobodyFloods sentAfter floodSlot resetAt resetAll floodStart floodRound floodRows joinMarks commonMarks withoutMark loggedAt loggedOf outcomeAt loggedOutcome pushed finalizeTx allVoted openTx votesAt mergeVotes mergeAbort gapAt gapOf nackOf voteOf isJudged judgeAt judged fastOf abortAll ownVote dataOf packetOf samePacket recordTx isFresh beginTx recordDue recordJudged abortOf knownVotes roundPacket prepareRound isNew hearNew mergeRound recordAborts takeUp isAnswer answerNack processOne partsOf processAt processAll shorterAt shortestLog progressAt progressAll stopsAt deliverAll isCovered coverAt coveredOf initiatorOf preparing bytesOf floodFrom closeRound floodOf runRound newPart newNetwork processing pipelineText diameterOf lengthOf floodLength earlyRefusal longRefusal graphRefusal withFrames lateOf lateRefusal roundRefusal rowsOfRound roundAnswer pipelineRefusal pipelinePart pipelineOf pipelineSlots payloadOf
 marked-cases =
     record {
       capture-line = record {

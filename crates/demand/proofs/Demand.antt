@@ -14,10 +14,12 @@ use Rattle.packets.specs.declared.TwoPcPhase.the-variants.{Prepare, Committed, 
 use Rattle.engines.specs.Nodes.{total}
 use Rattle.room.specs.declared.room.RoomConf.{RoomConf}
 use Rattle.room.specs.declared.room.Room.{Room}
-use Rattle.room.specs.Rooms.{sizeOf, noesOf, heldAt, openOf}
+use Rattle.room.specs.Kinds.{positionsOf}
+use Rattle.room.specs.Capturing.{noesOf}
+use Rattle.room.specs.Rooms.{sizeOf, heldAt, openOf}
 use Rattle.demand.specs.Calls.{Call, Propose, CaptureRound, PipelineRound, Read, handed, ticks, after, elapsed, moments}
 use Rattle.demand.specs.Demand.{HoldsPhase, AllVoteYes, Holds, Demand3}
-use Rattle.room.proofs.Counting.{first-total}
+use Rattle.engines.proofs.Sums.{first-total}
 use Rattle.room.proofs.Moments.{Inv, Le, le-same, le-more, Before, before-cases, then-later, Way, way-none}
 use Rattle.room.proofs.Calling.{opened, term-at, propose-way, capture-way}
 use Rattle.room.proofs.Flooding.{pipeline-way}
@@ -35,7 +37,7 @@ call-way (Read q) r i = way-none r i
 
 pub record Ran (cs : List Call) (r : Room) : Type 0 where
   pub inv : Inv (after cs r)
-  pub slots : after cs r .slot ≡ r .slot + elapsed cs r
+  pub slots : after cs r .network .slot ≡ r .network .slot + elapsed cs r
   pub le : Le r (after cs r)
   pub before : (x : Room) → List·Memᴰ x (moments cs r) → Before x (after cs r)
 
@@ -96,21 +98,21 @@ module _ {a b : Room} (i : Inv a) (j : Inv b) (l : Le a b) where
   -- what is held for a term is held for it in no lower phase later
   up : (v t : ℕ) (f g : TwoPcPhase) → HoldsPhase a v t f → HoldsPhase b v t g → rankOf f ≤ rankOf g
   up v t f g x y =
-      let e : heldAt b v .packet .term ≡ b .terms .term = term-at (heldAt b v) (j .held v) (y .held) in
+      let e : heldAt b v .packet .term ≡ b .capture .term = term-at (heldAt b v) (j .held v) (y .held) in
       let w = l .held v (x .held) (omega (arith, e, x .term, y .term)) in
       let k = w .packet .phase (y .term ∙ sym (x .term)) in
       subst (λ (p : TwoPcPhase). rankOf p ≤ rankOf g) (x .phase) (subst (λ (p : TwoPcPhase). rankOf (heldAt a v .packet .phase) ≤ rankOf p) (y .phase) k)
 
   -- the votes are those of the same room
   yes-later : (t : ℕ) → AllVoteYes a t → AllVoteYes b t
-  yes-later t y = subst (λ (c : RoomConf). AllYes (noesOf c) (c .graph .n) t) (sym (l .fixed)) y
+  yes-later t y = subst (λ (c : RoomConf). AllYes (noesOf c) (positionsOf c) t) (sym (l .fixed)) y
 
-  pub holds : Holds b (b .slot) a b
+  pub holds : Holds b (b .network .slot) a b
   holds =
       record {
         fixed = refl;
         slot = refl;
-        counts = first-total (b .nodes) (j .counts);
+        counts = first-total (b .network .nodes) (j .counts);
         logged = λ v k h m. record { there = omega (arith, l .logs v .longer); same = l .logs v .kept k m };
         agreed = λ u v t x y. apart (noesOf (b .conf)) (sizeOf b) t (claimed b u t Committed j x) (claimed b v t Aborted j y);
         committed = λ v t x. claimed b v t Committed j x;
@@ -122,24 +124,24 @@ module _ {a b : Room} (i : Inv a) (j : Inv b) (l : Le a b) where
       }
 
 -- the same of the room as it was opened, since nothing fixed has changed
-pub renamed : {a b o : Room} {e : ℕ} → b .conf ≡ o .conf → b .slot ≡ e → Holds b (b .slot) a b → Holds o e a b
+pub renamed : {a b o : Room} {e : ℕ} → b .conf ≡ o .conf → b .network .slot ≡ e → Holds b (b .network .slot) a b → Holds o e a b
 renamed {a} {b} {o} {e} p q h =
     record {
       fixed = p;
       slot = q;
-      counts = subst (λ (d : RoomConf). total (take (d .graph .n) (b .nodes)) ≡ d .graph .n * e) p (subst (λ (k : ℕ). total (take (sizeOf b) (b .nodes)) ≡ sizeOf b * k) q (h .counts));
-      logged = λ v k l m. h .logged v k (subst (λ (d : RoomConf). v < d .graph .n) (sym p) l) m;
+      counts = subst (λ (d : RoomConf). total (take (positionsOf d) (b .network .nodes)) ≡ positionsOf d * e) p (subst (λ (k : ℕ). total (take (sizeOf b) (b .network .nodes)) ≡ sizeOf b * k) q (h .counts));
+      logged = λ v k l m. h .logged v k (subst (λ (d : RoomConf). v < positionsOf d) (sym p) l) m;
       agreed = h .agreed;
-      committed = λ v t x. subst (λ (d : RoomConf). AllYes (noesOf d) (d .graph .n) t) p (h .committed v t x);
-      aborted = λ v t x. subst (λ (d : RoomConf). SomeNo (noesOf d) (d .graph .n) t) p (h .aborted v t x);
+      committed = λ v t x. subst (λ (d : RoomConf). AllYes (noesOf d) (positionsOf d) t) p (h .committed v t x);
+      aborted = λ v t x. subst (λ (d : RoomConf). SomeNo (noesOf d) (positionsOf d) t) p (h .aborted v t x);
       commitFirm = h .commitFirm;
       abortFirm = h .abortFirm;
     }
 
 pub demand3 : Demand3
-demand3 kind links settings transactions term interval bound l e calls a h =
-    let o = openOf kind links settings transactions term interval bound .room in
-    let s = opened kind links settings transactions term interval bound l in
+demand3 asked l e calls a h =
+    let o = openOf asked .room in
+    let s = opened asked l in
     let t = ran calls o (s .inv) in
     let x = t .before a h in
     renamed (t .le .fixed) (t .slots ∙ ap (λ (k : ℕ). k + elapsed calls o) (s .slot) ∙ zero-add (elapsed calls o)) (holds (x .inv) (t .inv) (x .le))

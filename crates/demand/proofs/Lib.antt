@@ -4,3 +4,4 @@ pub mod Resting
 pub mod Still
 pub mod Cases
 pub mod Rounds
+pub mod Listing

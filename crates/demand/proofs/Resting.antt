@@ -1,17 +1,19 @@
 -- A room of 1: it decides on proposing, and its rounds reach the goal in their first slot. Assumes nothing.
-use Prim.Native.Nat.{ℕ, zero, suc, _+_, _*_, _/_, _≤_}
-use mathlib.Core.Bool.{Bool, true, false, _&&_, _||_, false≢true}
+use Prim.Native.Nat.{ℕ, zero, suc, _+_, _-_, _*_, _/_, _≤_}
+use mathlib.Core.Bool.{Bool, true, false, not, _&&_, _||_, false≢true}
 use mathlib.Core.List.{List, [], _∷_, map, append-nil}
 use mathlib.Core.Path.{_≡_, refl, sym, ap, _∙_}
 use lib.Dec.{ltb, leb}
 use lib.Ieee.{binary64, ofBits, ofFields, le, eq, lt}
 use lib.ListN.{length, getD}
-use borrow.Author.Tests.{le-ltb, le-leb, ne-eqb}
+use borrow.Author.Tests.{le-ltb, ne-eqb}
 use native.Mathlib.Nat.{mod-eq-of-lt}
 use native.Mathlib.Omega.{arith}
 use Rattle.loops.specs.Runs.{go, tell, told-stop}
+use Rattle.limits.specs.Limits.{lastSlot, lastTerm}
 use Rattle.marks.specs.Marks.{marks, allOf}
-use Rattle.merges.specs.Votes.{noOf, add64}
+use Rattle.merges.specs.Votes.{noOf}
+use Rattle.loops.specs.Wrap.{add64}
 use Rattle.merges.specs.Merging.{Noes, settled, onlyOf, noPayload, standingBy, rankOf, allHold, networkGoalOf, outcomeOf, proposalOf, adoptedOf, ensureOf, filledOf, voicedOf, acknowledgedOf, markedOf, settledOf, unanimousOf, decidedOf}
 use Rattle.merges.specs.declared.votes.Voting.{Voting}
 use Rattle.packets.specs.declared.TwoPcPhase.the-variants.{Committed}
@@ -21,17 +23,23 @@ use Rattle.merges.specs.declared.merging.Payload.{Payload}
 use Rattle.merges.specs.declared.merging.ProposalOutcome.the-variants as outcome
 use Rattle.merges.proofs.Safety.{either-cases}
 use Rattle.merges.proofs.Growth.{proposal-term}
-use Rattle.engines.specs.Rows.{isDue}
-use Rattle.engines.specs.Capture.{over, begun, goalMet, finished, slotOf, rowsDue, rowsOf, startOf, afterRound, refusalOf, answerOf}
-use Rattle.engines.specs.declared.capture.CeRound.{CeRound}
-use Rattle.engines.specs.declared.capture.CeState.{CeState}
-use Rattle.pipeline.proofs.Sums.{inc-is}
+use Rattle.engines.specs.Rows.{isDue, rowsRefused}
+use Rattle.engines.specs.Network.{ticking, slotRow, longRefusal, lateOf}
+use Rattle.engines.specs.declared.network.Network.{Network}
+use Rattle.engines.specs.declared.network.RoundConf.{RoundConf}
+use Rattle.engines.proofs.Sums.{inc-is}
+use Rattle.capture.specs.Capture.{over, begun, goalMet, finished, slotOf, rowsOf, startOf, afterRound, refusalOf, answerOf}
+use Rattle.capture.specs.declared.capture.CeState.{CeState}
 use Rattle.room.specs.declared.room.RoomKind.the-variants as kinds
+use Rattle.room.specs.declared.room.RoomConf.{RoomConf}
 use Rattle.room.specs.declared.room.Room.{Room}
 use Rattle.room.specs.declared.room.Proposal.{Proposal}
-use Rattle.room.specs.declared.room.Round.{Round}
-use Rattle.room.specs.Rooms.{sizeOf, noesOf, heldAt, withTerms, proposeRefusal, proposedIn, proposeOf, ceConf, ceState, during, afterCapture, captureRefusal, capturedBy, captureOf}
-use Rattle.room.specs.Slots.{stagesFrom, captureSlots}
+use Rattle.room.specs.declared.room.RoundAnswer.{RoundAnswer}
+use Rattle.room.specs.declared.capture_calls.CapturePart.{CapturePart}
+use Rattle.room.specs.Capturing.{noesOf, proposeRefusal, proposedIn, proposePart, ceState, captureRefusal, networkAfter, partAfter, capturedBy, capturePart}
+use Rattle.room.specs.Rooms.{sizeOf, heldAt, withCapture, proposeOf, captureOf}
+use Rattle.room.specs.Slots.{stagesFrom, during, captureSlots}
+use Rattle.room.proofs.Calling.{round-fine}
 use Rattle.demand.specs.Cases.{AloneProposes, AloneEnds}
 
 -- ---- a loop that ends with its first step
@@ -68,79 +76,95 @@ goal-alone : (n : ℕ) (ls : List Payload) → n ≡ 1 → getD ls 0 noPayload .
 unfolding networkGoalOf allHold allOf standingBy rankOf
 goal-alone n ls e h f = rw (e, h, f)
 
-module _ (ws links : List ℕ) (conf : CeRound) (s : CeState) (running : s .ended ≡ false) (goal : networkGoalOf (conf .voting .n) (s .held) ≡ true) where
+module _ (ws : List ℕ) (conf : RoundConf) (s : CeState) (running : s .ended ≡ false) (goal : networkGoalOf (conf .graph .n) (s .held) ≡ true) where
   abbrev end : CeState
   end = goalMet conf (begun conf s)
 
-  slot-goal : slotOf ws links conf s ≡ end
+  slot-goal : slotOf ws conf s ≡ end
   unfolding slotOf finished begun
   slot-goal = rw goal
 
-  ended-goal : over (slotOf ws links conf s) ≡ true
+  ended-goal : over (slotOf ws conf s) ≡ true
   unfolding goalMet
   ended-goal = ap over slot-goal
 
-  round-goal : (k : ℕ) → 1 ≤ k → afterRound ws links conf k s ≡ end
+  round-goal : 1 ≤ conf .length → afterRound ws conf s ≡ end
   unfolding afterRound
-  round-goal k h = go-once over (slotOf ws links conf) s k h running ended-goal ∙ slot-goal
+  round-goal h = go-once over (slotOf ws conf) s (conf .length) h running ended-goal ∙ slot-goal
 
-  rows-goal : (k : ℕ) → 1 ≤ k → rowsOf ws links conf k s ≡ rowsDue conf (begun conf s)
-  rows-goal k h = tell-once over (slotOf ws links conf) (λ d. rowsDue conf (begun conf d)) s k h running ended-goal
+  rows-goal : 1 ≤ conf .length → rowsOf ws conf (conf .length) s ≡ slotRow conf (s .network)
+  rows-goal h = tell-once over (slotOf ws conf) (λ d. slotRow conf (d .network)) s (conf .length) h running ended-goal
 
 -- at most one row
-rows-few : (conf : CeRound) (c : CeState) → length (rowsDue conf c) ≤ 5
-unfolding rowsDue
-rows-few conf c = either-cases (λ (l : List ℕ). length l ≤ 5) (isDue (c .«next_row») (c .slot)) (λ e. omega arith) (λ e. omega arith)
+rows-few : (conf : RoundConf) (w : Network) → length (slotRow conf w) ≤ 5
+unfolding slotRow
+rows-few conf w = either-cases (λ (l : List ℕ). length l ≤ 5) (isDue (w .«next_row») (w .slot)) (λ e. omega arith) (λ e. omega arith)
+
+-- rows that fit are not refused
+fitting : (numbers used m : ℕ) → used * 5 + m ≤ numbers → rowsRefused numbers used (m / 5) ≡ false
+unfolding rowsRefused
+fitting numbers used m h = rw (le-ltb numbers (used * 5) (omega arith), le-ltb ((numbers - used * 5) / 5) (m / 5) (omega arith))
 
 -- ---- what a round answers, once its run and rows are known
 
 module _ (ws : List ℕ) (numbers used cursor : ℕ) (r : Room) where
   abbrev pub start : CeState
-  start = startOf (ceConf (r .conf)) (r .terms .initiator) cursor (ceState r)
+  start = startOf (r .conf .round) (r .capture .initiator) cursor (ceState (r .network) (r .capture))
 
-  pub round-is : (c : CeState) (rows : List ℕ) → captureRefusal (sizeOf r) (r .conf .kind) (r .terms .proposed) ≡ 0
-      → r .slot + r .conf .length ≤ 4294967295
-      → afterRound ws (r .conf .graph .adj) (ceConf (r .conf)) (r .conf .length) start ≡ c
-      → rowsOf ws (r .conf .graph .adj) (ceConf (r .conf)) (r .conf .length) start ≡ rows
+  pub round-is : (c : CeState) (rows : List ℕ) → captureRefusal (r .conf) (r .capture) (r .network .slot) ≡ 0
+      → afterRound ws (r .conf .round) start ≡ c
+      → rowsOf ws (r .conf .round) (r .conf .round .length) start ≡ rows
       → c .draw .short ≡ false → used * 5 + length rows ≤ numbers
-      → captureOf ws numbers used r cursor ≡ record { refusal = 0; cursor = c .draw .at; used = used + length rows / 5; room = afterCapture r c }
-  unfolding captureOf capturedBy answerOf refusalOf startOf
-  round-is c rows early fits run told words room =
-      rw (early, le-ltb 4294967295 (r .slot + r .conf .length) fits, run, told, words, le-leb (used * 5 + length rows) numbers room)
+      → captureOf ws numbers used r cursor
+      ≡ record { refusal = 0; cursor = c .draw .at; used = used + length rows / 5; room = withCapture r (networkAfter (r .conf) (r .capture) c) (partAfter (r .capture) c) }
+  unfolding captureOf capturePart capturedBy answerOf refusalOf startOf lateOf
+  round-is c rows early run told words room =
+      let long : longRefusal (r .conf .round) (r .network .slot) ≡ 0 = round-fine (r .conf) (r .capture) (r .network .slot) early in
+      rw (early, long, run, told, words, fitting numbers used (length rows) room)
 
-  pub early-none : r .conf .kind ≡ kinds.Capture → (ltb 0 (sizeOf r) && leb (sizeOf r) 64) ≡ true → r .terms .proposed ≡ true
-      → captureRefusal (sizeOf r) (r .conf .kind) (r .terms .proposed) ≡ 0
-  unfolding captureRefusal
-  early-none k s p = rw (k, s, p)
+  pub early-none : r .conf .kind ≡ kinds.Capture → (ltb 0 (sizeOf r) && leb (sizeOf r) 64) ≡ true → r .capture .proposed ≡ true
+      → r .network .slot + r .conf .round .length ≤ lastSlot → captureRefusal (r .conf) (r .capture) (r .network .slot) ≡ 0
+  unfolding captureRefusal longRefusal
+  early-none k s p h = rw (k, s, p, le-ltb lastSlot (r .network .slot + r .conf .round .length) h)
 
 or-true : (b : Bool) → (b || true) ≡ true
 or-true true = refl
 or-true false = refl
 
+-- the raise of progress changes neither slot nor bytes
+after-slot : (c : RoomConf) (t : CapturePart) (s : CeState) → networkAfter c t s .slot ≡ s .network .slot
+unfolding networkAfter
+after-slot c t s = either-cases (λ (w : Network). w .slot ≡ s .network .slot) (s .ended && not (t .raised)) (λ e. refl) (λ e. refl)
+
+after-bytes : (c : RoomConf) (t : CapturePart) (s : CeState) → networkAfter c t s .«bytes_sent» ≡ s .network .«bytes_sent»
+unfolding networkAfter
+after-bytes c t s = either-cases (λ (w : Network). w .«bytes_sent» ≡ s .network .«bytes_sent») (s .ended && not (t .raised)) (λ e. refl) (λ e. refl)
+
 pub alone-ends : AloneEnds
-unfolding startOf begun goalMet afterCapture captureSlots
+unfolding startOf begun ticking goalMet captureSlots
 alone-ends ws numbers used cursor r a d h fits room =
+    let conf = r .conf .round in
     let s = start ws numbers used cursor r in
-    let goal : networkGoalOf (sizeOf r) (r .terms .held) ≡ true = goal-alone (sizeOf r) (r .terms .held) (a .size) (d .held) (d .phase) in
-    let most = rows-few (ceConf (r .conf)) (begun (ceConf (r .conf)) s) in
-    let e = round-is ws numbers used cursor r (end ws (r .conf .graph .adj) (ceConf (r .conf)) s refl goal) (rowsDue (ceConf (r .conf)) (begun (ceConf (r .conf)) s))
-    (early-none ws numbers used cursor r (a .kind) (rw (a .size)) (d .proposed)) fits
-    (round-goal ws (r .conf .graph .adj) (ceConf (r .conf)) s refl goal (r .conf .length) h)
-    (rows-goal ws (r .conf .graph .adj) (ceConf (r .conf)) s refl goal (r .conf .length) h)
+    let goal : networkGoalOf (sizeOf r) (r .capture .held) ≡ true = goal-alone (sizeOf r) (r .capture .held) (a .size) (d .held) (d .phase) in
+    let most = rows-few conf (s .network) in
+    let e = round-is ws numbers used cursor r (end ws conf s refl goal) (slotRow conf (s .network))
+    (early-none ws numbers used cursor r (a .kind) (rw (a .size)) (d .proposed) fits)
+    (round-goal ws conf s refl goal h)
+    (rows-goal ws conf s refl goal h)
     refl (omega arith) in
     record {
-      accepted = ap (λ (q : Round). q .refusal) e;
-      drawn = ap (λ (q : Round). q .cursor) e;
-      fixed = ap (λ (q : Round). q .room .conf) e;
-      ends = ap (λ (q : Round). q .room .slot) e ∙ inc-is (r .slot) (omega arith);
-      ticks = ap (λ (l : List CeState). length (map (during r) l)) (stages-once over (slotOf ws (r .conf .graph .adj) (ceConf (r .conf))) s (r .conf .length) h refl (ended-goal ws (r .conf .graph .adj) (ceConf (r .conf)) s refl goal));
-      bytes = ap (λ (q : Round). q .room .«bytes_sent») e;
-      raised = ap (λ (q : Round). q .room .terms .raised) e ∙ or-true (r .terms .raised);
-      held = ap (λ (q : Round). q .room .terms .held) e;
+      accepted = ap (λ (q : RoundAnswer). q .refusal) e;
+      drawn = ap (λ (q : RoundAnswer). q .cursor) e;
+      fixed = ap (λ (q : RoundAnswer). q .room .conf) e;
+      ends = ap (λ (q : RoundAnswer). q .room .network .slot) e ∙ after-slot (r .conf) (r .capture) _ ∙ inc-is (r .network .slot) (omega arith);
+      ticks = ap (λ (l : List CeState). length (map (during r) l)) (stages-once over (slotOf ws conf) s (conf .length) h refl (ended-goal ws conf s refl goal));
+      bytes = ap (λ (q : RoundAnswer). q .room .network .«bytes_sent») e ∙ after-bytes (r .conf) (r .capture) _;
+      raised = ap (λ (q : RoundAnswer). q .room .capture .raised) e ∙ or-true (r .capture .raised);
+      held = ap (λ (q : RoundAnswer). q .room .capture .held) e;
       decided = record {
-        proposed = ap (λ (q : Round). q .room .terms .proposed) e ∙ d .proposed;
-        held = ap (λ (q : Round). heldAt (q .room) 0 .held) e ∙ d .held;
-        phase = ap (λ (q : Round). heldAt (q .room) 0 .packet .phase) e ∙ d .phase;
+        proposed = ap (λ (q : RoundAnswer). q .room .capture .proposed) e ∙ d .proposed;
+        held = ap (λ (q : RoundAnswer). heldAt (q .room) 0 .held) e ∙ d .held;
+        phase = ap (λ (q : RoundAnswer). heldAt (q .room) 0 .packet .phase) e ∙ d .phase;
       };
     }
 
@@ -164,20 +188,20 @@ unfolding outcomeOf allHold allOf standingBy rankOf
 outcome-alone ls h f = rw (h, f)
 
 pub alone-proposes : AloneProposes
-unfolding proposeOf proposeRefusal proposedIn
+unfolding proposeOf proposePart proposeRefusal proposedIn
 alone-proposes r a p l =
     let nay = noesOf (r .conf) in
-    let e : proposeOf r 0 ≡ record { refusal = 0; room = withTerms r (proposedIn (r .conf) (r .terms) 0) } =
-    rw (a .size, a .kind, ne-eqb (r .terms .term) 0xFFFF_FFFF_FFFF_FFFF (λ e. omega arith)) in
-    let f : proposalOf nay (sizeOf r) 0 (r .terms .term) .phase ≡ Committed =
-    ap (λ (n : ℕ). proposalOf nay n 0 (r .terms .term) .phase) (a .size) ∙ proposal-alone nay (r .terms .term) (none-no _ _ 0 p) in
+    let e : proposeOf r 0 ≡ record { refusal = 0; room = withCapture r (r .network) (proposedIn (r .conf) (r .capture) 0) } =
+    rw (a .size, a .kind, ne-eqb (r .capture .term) lastTerm (λ e. omega arith)) in
+    let f : proposalOf nay (sizeOf r) 0 (r .capture .term) .phase ≡ Committed =
+    ap (λ (n : ℕ). proposalOf nay n 0 (r .capture .term) .phase) (a .size) ∙ proposal-alone nay (r .capture .term) (none-no _ _ 0 p) in
     let h : heldAt (proposeOf r 0 .room) 0 .held ≡ Packet = ap (λ (q : Proposal). heldAt (q .room) 0 .held) e in
     let g : heldAt (proposeOf r 0 .room) 0 .packet .phase ≡ Committed = ap (λ (q : Proposal). heldAt (q .room) 0 .packet .phase) e ∙ f in
     record {
       accepted = ap (λ (q : Proposal). q .refusal) e;
       fixed = ap (λ (q : Proposal). q .room .conf) e;
-      slot = ap (λ (q : Proposal). q .room .slot) e;
-      term = ap (λ (q : Proposal). heldAt (q .room) 0 .packet .term) e ∙ proposal-term nay (sizeOf r) 0 (r .terms .term) ∙ mod-eq-of-lt (omega arith);
-      decided = record { proposed = ap (λ (q : Proposal). q .room .terms .proposed) e; held = h; phase = g };
-      outcome = outcome-alone (proposeOf r 0 .room .terms .held) h g;
+      slot = ap (λ (q : Proposal). q .room .network .slot) e;
+      term = ap (λ (q : Proposal). heldAt (q .room) 0 .packet .term) e ∙ proposal-term nay (sizeOf r) 0 (r .capture .term) ∙ mod-eq-of-lt (omega arith);
+      decided = record { proposed = ap (λ (q : Proposal). q .room .capture .proposed) e; held = h; phase = g };
+      outcome = outcome-alone (proposeOf r 0 .room .capture .held) h g;
     }

@@ -24,6 +24,6 @@ calls-within t (c ∷ cs) k r w =
     omega (arith, h)
 
 pub few-rounds : FewRounds
-few-rounds kind links settings transactions term interval bound calls =
-    let h = calls-within transactions calls 0 (openOf kind links settings transactions term interval bound .room) (opened-within kind links settings transactions term interval bound) in
+few-rounds asked calls =
+    let h = calls-within (asked .transactions) calls 0 (openOf asked .room) (opened-within asked) in
     omega (arith, h)

@@ -21,9 +21,9 @@ use Rattle.packets.proofs.Promises.{ce-promises}
 use Rattle.room.specs.declared.room.RoomKind.{RoomKind}
 use Rattle.room.specs.declared.room.RoomKind.the-variants as kinds
 use Rattle.room.specs.declared.room.Room.{Room}
-use Rattle.room.specs.declared.readings.TextReading.{TextReading}
+use Rattle.readings.specs.declared.readings.TextReading.{TextReading}
 use Rattle.room.specs.Rooms.{sizeOf, heldAt, openOf}
-use Rattle.room.specs.Readings.{ceAnswerBy, ceLeftBy, textBy, textOf, leftBy, textLeft}
+use Rattle.readings.specs.Readings.{ceAnswerBy, ceLeftBy, textBy, textOf, leftBy, textLeft}
 use Rattle.demand.specs.Demand.{HoldsPhase}
 use Rattle.demand.specs.Texts.{textIn, heldText, GivesPhase, SameTexts, TextsGive, Demand3Texts}
 use Rattle.room.proofs.Moments.{Inv}
@@ -69,7 +69,7 @@ record Written (s : List ℕ) (x : TextReading) (out : List ℕ) : Type 0 where
 
 within : (p : CeTwoPcPacket) → ValidCe p → ceWithin p ≡ true
 unfolding limits
-within p v = ap₂ (λ (x y : Bool). x && y) (le-leb (p .«flags_bitmap» .len) 64 (v .bitmap .atMost64)) (le-leb (p .«proposal_data» .len) 32 (v .bytes .atMost64))
+within p v = ap₂ (λ (x y : Bool). x && y) (le-leb (p .«flags_bitmap» .len) 64 (v .bitmap .atMost64)) (le-leb (p .«proposal_data» .len) 32 (v .bytes .atMost32))
 
 written-by : (p : CeTwoPcPacket) (h : Held) (out : List ℕ) → (h ≡ Packet → ValidCe p) → 596 ≤ length out → Written (textIn p h) (ceAnswerBy p out h) (ceLeftBy p out h)
 unfolding ceAnswerBy ceLeftBy wroteOf leftOf written
@@ -133,18 +133,18 @@ module _ (r : Room) (i : Inv r) where
       }
 
 pub texts-give : TextsGive
-texts-give kind links settings transactions term interval bound l e calls a h =
-    let o = openOf kind links settings transactions term interval bound .room in
-    let t = ran calls o (opened kind links settings transactions term interval bound l .inv) in
+texts-give asked l e calls a h =
+    let o = openOf asked .room in
+    let t = ran calls o (opened asked l .inv) in
     same-texts a (t .before a h .inv)
 
 pub demand3-texts : Demand3Texts
-demand3-texts kind links settings transactions term interval bound l e calls a h =
-    let o = openOf kind links settings transactions term interval bound .room in
-    let t = ran calls o (opened kind links settings transactions term interval bound l .inv) in
+demand3-texts asked l e calls a h =
+    let o = openOf asked .room in
+    let t = ran calls o (opened asked l .inv) in
     let x = same-texts a (t .before a h .inv) in
     let y = same-texts _ (t .inv) in
-    let d = demand3 kind links settings transactions term interval bound l e calls a h in
+    let d = demand3 asked l e calls a h in
     record {
       agreed = λ u v k p q. d .agreed u v k (y .holds u k _ p) (y .holds v k _ q);
       committed = λ v k p. d .committed v k (y .holds v k _ p);

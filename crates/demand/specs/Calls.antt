@@ -2,6 +2,7 @@
 -- Assumes nothing: these are definitions.
 use Prim.Native.Nat.{ℕ, _+_}
 use mathlib.Core.List.{List, [], _∷_, _++_}
+use mathlib.Core.Path.{_≡_}
 use lib.Dec.{eqb}
 use lib.ListN.{length}
 use Rattle.loops.specs.Pick.{either}
@@ -53,3 +54,8 @@ elapsed (c ∷ cs) r = length (ticks c r) + elapsed cs (handed c r)
 unfoldable pub moments : List Call → Room → List Room
 moments [] r = r ∷ []
 moments (c ∷ cs) r = r ∷ (ticks c r ++ moments cs (handed c r))
+
+-- some list of calls leads from room r to room q
+pub record ByCalls (r q : Room) : Type 0 where
+  pub calls : List Call
+  pub same : after calls r ≡ q

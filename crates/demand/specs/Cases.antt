@@ -7,7 +7,9 @@ use mathlib.Core.Path.{_≡_}
 use lib.Dec.{eqb}
 use lib.ListN.{length, getD}
 use lib.Ieee.{Float, binary64, ofBits, lt}
-use Rattle.graph.specs.Links.{isSize, rowsOf, topologyOf}
+use Rattle.limits.specs.Limits.{lastSlot, lastTerm}
+use Rattle.limits.specs.Refusals.{badLoss}
+use Rattle.graph.specs.Links.{isSize, rowsOf, graphRefusal, topologyOf}
 use Rattle.merges.specs.Votes.{noOf}
 use Rattle.merges.specs.Merging.{payloadOf, Noes, mergeOf, redundant, networkGoalOf, outcomeOf}
 use Rattle.packets.specs.declared.TwoPcPhase.the-variants.{Committed}
@@ -15,23 +17,25 @@ use Rattle.packets.specs.declared.CeTwoPcPacket.{CeTwoPcPacket}
 use Rattle.merges.specs.declared.merging.Held.the-variants.{Empty, Packet}
 use Rattle.merges.specs.declared.merging.Payload.{Payload}
 use Rattle.merges.specs.declared.merging.ProposalOutcome.the-variants as outcome
-use Rattle.engines.specs.Nodes.{noNode}
-use Rattle.engines.specs.Ce.{payloadLen}
+use Rattle.engines.specs.Nodes.{noNode, Alike}
+use Rattle.capture.specs.Ce.{payloadLen}
 use Rattle.engines.specs.declared.node.Node.{Node}
 use Rattle.engines.specs.declared.settings.Settings.{Settings}
 use Rattle.room.specs.declared.room.RoomKind.{RoomKind}
 use Rattle.room.specs.declared.room.RoomKind.the-variants as kinds
 use Rattle.room.specs.declared.room.Room.{Room}
+use Rattle.room.specs.declared.room.Asked.{Asked}
 use Rattle.room.specs.declared.room.Opening.{Opening}
 use Rattle.room.specs.declared.room.Proposal.{Proposal}
-use Rattle.room.specs.declared.room.Round.{Round}
-use Rattle.room.specs.Rooms.{isPipeline, sizeOf, heldAt, openOf, proposeOf, captureOf, pipelineOf}
+use Rattle.room.specs.declared.room.RoundAnswer.{RoundAnswer}
+use Rattle.room.specs.Kinds.{isPipeline}
+use Rattle.room.specs.Rooms.{sizeOf, heldAt, openOf, proposeOf, captureOf, pipelineOf}
 use Rattle.room.specs.Slots.{captureSlots, pipelineSlots}
 
 -- ---- what a room shows
 
 abbrev pub node : Room → ℕ → Node
-node r v = getD (r .nodes) v noNode
+node r v = getD (r .network .nodes) v noNode
 
 -- the listen, flood and sleep counts of positions 0 and 1 together
 abbrev pub countsOfTwo : Room → List ℕ
@@ -40,12 +44,6 @@ countsOfTwo r =
     ∷ (node r 0 .«slots_flood» + node r 1 .«slots_flood»)
     ∷ (node r 0 .«slots_sleep» + node r 1 .«slots_sleep»)
     ∷ []
-
--- v and w have the same three counts
-pub record SameCounts (v w : Node) : Type 0 where
-  pub listen : v .«slots_listen» ≡ w .«slots_listen»
-  pub flood : v .«slots_flood» ≡ w .«slots_flood»
-  pub sleep : v .«slots_sleep» ≡ w .«slots_sleep»
 
 -- ---- two positions that hear each other
 
@@ -65,14 +63,19 @@ plain given slots =
       «slots_given» = given;
     }
 
+-- rooms of them, with rows and a bound that no round reaches
+abbrev pub asking : RoomKind → Settings → ℕ → Asked
+asking kind s transactions =
+    record { kind = kind; graph = rowsOf pair .graph; settings = s; transactions = transactions; term = 0; interval = lastSlot; bound = lastSlot }
+
 -- a capture room of them with rounds of 20 slots, the proposal of position 0, and one round: no words, a buffer of one row
 abbrev pub captureRoom : Opening
-captureRoom = openOf kinds.Capture pair (plain true 20) 1 0 4294967295 4294967295
+captureRoom = openOf (asking kinds.Capture (plain true 20) 1)
 
 abbrev pub proposal : Proposal
 proposal = proposeOf (captureRoom .room) 0
 
-abbrev pub captured : Round
+abbrev pub captured : RoundAnswer
 captured = captureOf [] 5 0 (proposal .room) 0
 
 pub record LineOfTwo : Type 0 where
@@ -84,21 +87,21 @@ pub record LineOfTwo : Type 0 where
   pub first : payloadLen (heldAt (proposal .room) 0) ≡ 85
   pub second : map (λ r. payloadLen (heldAt r 1)) (captureSlots [] 0 (proposal .room)) ≡ 87 ∷ 87 ∷ 87 ∷ []
   -- and by the bytes sent after each of the three slots
-  pub sent : map (λ r. r .«bytes_sent») (captureSlots [] 0 (proposal .room)) ≡ 85 ∷ 172 ∷ 172 ∷ []
-  pub bytes : captured .room .«bytes_sent» ≡ 172
+  pub sent : map (λ r. r .network .«bytes_sent») (captureSlots [] 0 (proposal .room)) ≡ 85 ∷ 172 ∷ 172 ∷ []
+  pub bytes : captured .room .network .«bytes_sent» ≡ 172
   -- position 0 holds another text at the end: both marks are true in it
   pub first-after : payloadLen (heldAt (captured .room) 0) ≡ 86
-  pub goal : networkGoalOf 2 (captured .room .terms .held) ≡ true
-  pub raised : captured .room .terms .raised ≡ true
-  pub ends : captured .room .slot ≡ 3
+  pub goal : networkGoalOf 2 (captured .room .capture .held) ≡ true
+  pub raised : captured .room .capture .raised ≡ true
+  pub ends : captured .room .network .slot ≡ 3
   pub counts : countsOfTwo (captured .room) ≡ 3 ∷ 3 ∷ 0 ∷ []
-  pub outcome : outcomeOf 2 (captured .room .terms .held) ≡ outcome.Committed
+  pub outcome : outcomeOf 2 (captured .room .capture .held) ≡ outcome.Committed
 
 -- a pipeline room of them with no transactions, whose round slots are not given, and one round: no words, a buffer of one row
 abbrev pub pipelineRoom : Opening
-pipelineRoom = openOf kinds.Pipeline pair (plain false 0) 0 0 4294967295 4294967295
+pipelineRoom = openOf (asking kinds.Pipeline (plain false 0) 0)
 
-abbrev pub flooded : Round
+abbrev pub flooded : RoundAnswer
 flooded = pipelineOf [] 5 0 (pipelineRoom .room) 0
 
 pub record MeshOfTwo : Type 0 where
@@ -106,13 +109,13 @@ pub record MeshOfTwo : Type 0 where
   pub opens : pipelineRoom .refusal ≡ 0
   pub runs : flooded .refusal ≡ 0
   -- two slots of the three that it may last
-  pub full : flooded .room .conf .length ≡ 3
-  pub slots : map (λ r. r .slot) (pipelineSlots [] 0 (pipelineRoom .room)) ≡ 1 ∷ 2 ∷ []
-  pub ends : flooded .room .slot ≡ 2
+  pub full : flooded .room .conf .round .length ≡ 3
+  pub slots : map (λ r. r .network .slot) (pipelineSlots [] 0 (pipelineRoom .room)) ≡ 1 ∷ 2 ∷ []
+  pub ends : flooded .room .network .slot ≡ 2
   pub counts : countsOfTwo (flooded .room) ≡ 1 ∷ 2 ∷ 1 ∷ []
-  pub covered : flooded .room .metrics .«flood_nodes_covered» ≡ 2
-  pub stopped : flooded .room .rounds .stop ≡ true
-  pub bytes : flooded .room .«bytes_sent» ≡ 352
+  pub covered : flooded .room .network .metrics .«flood_nodes_covered» ≡ 2
+  pub stopped : flooded .room .pipeline .stop ≡ true
+  pub bytes : flooded .room .network .«bytes_sent» ≡ 352
 
 -- ---- votes: 0.0005 by its pattern
 
@@ -134,7 +137,7 @@ pub record Alone (r : Room) : Type 0 where
 
 -- a proposal was made, and what the position holds is Committed
 pub record Decided (r : Room) : Type 0 where
-  pub proposed : r .terms .proposed ≡ true
+  pub proposed : r .capture .proposed ≡ true
   pub held : heldAt r 0 .held ≡ Packet
   pub phase : heldAt r 0 .packet .phase ≡ Committed
 
@@ -142,44 +145,44 @@ pub record Decided (r : Room) : Type 0 where
 pub record AloneProposed (r : Room) (q : Proposal) : Type 0 where
   pub accepted : q .refusal ≡ 0
   pub fixed : q .room .conf ≡ r .conf
-  pub slot : q .room .slot ≡ r .slot
-  pub term : heldAt (q .room) 0 .packet .term ≡ r .terms .term + 1
+  pub slot : q .room .network .slot ≡ r .network .slot
+  pub term : heldAt (q .room) 0 .packet .term ≡ r .capture .term + 1
   pub decided : Decided (q .room)
-  pub outcome : outcomeOf 1 (q .room .terms .held) ≡ outcome.Committed
+  pub outcome : outcomeOf 1 (q .room .capture .held) ≡ outcome.Committed
 
 abbrev pub AloneProposes : Type 0
 AloneProposes =
-    (r : Room) → Alone r → r .conf .settings .«abort_probability» ≡ ofBits binary64 0 → r .terms .term < 0xFFFF_FFFF_FFFF_FFFF
+    (r : Room) → Alone r → r .conf .round .settings .«abort_probability» ≡ ofBits binary64 0 → r .capture .term < lastTerm
     → AloneProposed r (proposeOf r 0)
 
 -- The round of room r is accepted, draws no word, has one slot, in which nothing is sent, and reaches the goal.
-pub record AloneEnded (ws : List ℕ) (cursor : ℕ) (r : Room) (q : Round) : Type 0 where
+pub record AloneEnded (ws : List ℕ) (cursor : ℕ) (r : Room) (q : RoundAnswer) : Type 0 where
   pub accepted : q .refusal ≡ 0
   pub drawn : q .cursor ≡ cursor
   pub fixed : q .room .conf ≡ r .conf
-  pub ends : q .room .slot ≡ r .slot + 1
+  pub ends : q .room .network .slot ≡ r .network .slot + 1
   pub ticks : length (captureSlots ws cursor r) ≡ 1
-  pub bytes : q .room .«bytes_sent» ≡ r .«bytes_sent»
-  pub raised : q .room .terms .raised ≡ true
-  pub held : q .room .terms .held ≡ r .terms .held
+  pub bytes : q .room .network .«bytes_sent» ≡ r .network .«bytes_sent»
+  pub raised : q .room .capture .raised ≡ true
+  pub held : q .room .capture .held ≡ r .capture .held
   pub decided : Decided (q .room)
 
 -- Words, cursor and full length may be any; the premises leave out refusal 15, and refusal 17 for one row.
 abbrev pub AloneEnds : Type 0
 AloneEnds =
     (ws : List ℕ) (numbers used cursor : ℕ) (r : Room) → Alone r → Decided r
-    → 1 ≤ r .conf .length → r .slot + r .conf .length ≤ 4294967295 → used * 5 + 5 ≤ numbers
+    → 1 ≤ r .conf .round .length → r .network .slot + r .conf .round .length ≤ lastSlot → used * 5 + 5 ≤ numbers
     → AloneEnded ws cursor r (captureOf ws numbers used r cursor)
 
 -- ---- rounds of no slots
 
 -- room q has ended where room r started: slot, bytes sent and each position's counts are as they were
 pub record Unmoved (r q : Room) : Type 0 where
-  pub slot : q .slot ≡ r .slot
-  pub bytes : q .«bytes_sent» ≡ r .«bytes_sent»
-  pub counts : (v : ℕ) → SameCounts (node q v) (node r v)
+  pub slot : q .network .slot ≡ r .network .slot
+  pub bytes : q .network .«bytes_sent» ≡ r .network .«bytes_sent»
+  pub counts : (v : ℕ) → Alike (node q v) (node r v)
 
-pub record NoTick (ws : List ℕ) (cursor used : ℕ) (r : Room) (q : Round) : Type 0 where
+pub record NoTick (ws : List ℕ) (cursor used : ℕ) (r : Room) (q : RoundAnswer) : Type 0 where
   pub accepted : q .refusal ≡ 0
   pub drawn : q .cursor ≡ cursor
   pub rows : q .used ≡ used
@@ -189,18 +192,18 @@ pub record NoTick (ws : List ℕ) (cursor used : ℕ) (r : Room) (q : Round) : T
 -- every capture round of no slots that refusals 2, 11, 12, 15 and 17 leave
 abbrev pub CaptureOfNoSlots : Type 0
 CaptureOfNoSlots =
-    (ws : List ℕ) (numbers used cursor : ℕ) (r : Room) → isSize (sizeOf r) ≡ true → r .conf .kind ≡ kinds.Capture → r .terms .proposed ≡ true
-    → r .conf .length ≡ 0 → r .slot ≤ 4294967295 → used * 5 ≤ numbers
+    (ws : List ℕ) (numbers used cursor : ℕ) (r : Room) → isSize (sizeOf r) ≡ true → r .conf .kind ≡ kinds.Capture → r .capture .proposed ≡ true
+    → r .conf .round .length ≡ 0 → r .network .slot ≤ lastSlot → used * 5 ≤ numbers
     → NoTick ws cursor used r (captureOf ws numbers used r cursor)
 
 -- Every pipeline round of no slots, accepted or refused. (It is prepared and processed all the same, so it may draw words.)
 pub record PipelineOfNoSlots : Type 0 where
-  pub ticks : (ws : List ℕ) (cursor : ℕ) (r : Room) → r .conf .length ≡ 0 → pipelineSlots ws cursor r ≡ []
-  pub unmoved : (ws : List ℕ) (numbers used cursor : ℕ) (r : Room) → r .conf .length ≡ 0 → Unmoved r (pipelineOf ws numbers used r cursor .room)
+  pub ticks : (ws : List ℕ) (cursor : ℕ) (r : Room) → r .conf .round .length ≡ 0 → pipelineSlots ws cursor r ≡ []
+  pub unmoved : (ws : List ℕ) (numbers used cursor : ℕ) (r : Room) → r .conf .round .length ≡ 0 → Unmoved r (pipelineOf ws numbers used r cursor .room)
   -- one that is accepted: two positions, no transactions
-  pub opens : openOf kinds.Pipeline pair (plain true 0) 0 0 4294967295 4294967295 .refusal ≡ 0
-  pub full : openOf kinds.Pipeline pair (plain true 0) 0 0 4294967295 4294967295 .room .conf .length ≡ 0
-  pub accepted : pipelineOf [] 0 0 (openOf kinds.Pipeline pair (plain true 0) 0 0 4294967295 4294967295 .room) 0 .refusal ≡ 0
+  pub opens : openOf (asking kinds.Pipeline (plain true 0) 0) .refusal ≡ 0
+  pub full : openOf (asking kinds.Pipeline (plain true 0) 0) .room .conf .round .length ≡ 0
+  pub accepted : pipelineOf [] 0 0 (openOf (asking kinds.Pipeline (plain true 0) 0) .room) 0 .refusal ≡ 0
 
 -- ---- merges
 
@@ -214,17 +217,13 @@ pub record EmptyHeard : Type 0 where
 -- in any room that nothing else refuses
 abbrev pub MinusZero : Type 0
 MinusZero =
-    (kind : RoomKind) (links : List ℕ) (s : Settings) (transactions term interval bound : ℕ) → rowsOf links .refusal ≡ 0
-    → s .«loss_rate» ≡ ofBits binary64 0x8000_0000_0000_0000
-    → (isPipeline kind && eqb (s .«flood_repeats») 0) ≡ false → 1 ≤ interval → transactions ≤ 64
-    → openOf kind links s transactions term interval bound .refusal ≡ 0
+    (a : Asked) → graphRefusal (a .graph) ≡ 0 → a .settings .«loss_rate» ≡ ofBits binary64 0x8000_0000_0000_0000
+    → (isPipeline (a .kind) && eqb (a .settings .«flood_repeats») 0) ≡ false → 1 ≤ a .interval → a .transactions ≤ 64
+    → openOf a .refusal ≡ 0
 
 -- in any room that refusals 2 and 3 leave
 abbrev pub One : Type 0
-One =
-    (kind : RoomKind) (links : List ℕ) (s : Settings) (transactions term interval bound : ℕ) → rowsOf links .refusal ≡ 0
-    → s .«loss_rate» ≡ ofBits binary64 0x3FF0_0000_0000_0000
-    → openOf kind links s transactions term interval bound .refusal ≡ 4
+One = (a : Asked) → graphRefusal (a .graph) ≡ 0 → a .settings .«loss_rate» ≡ ofBits binary64 0x3FF0_0000_0000_0000 → openOf a .refusal ≡ badLoss
 
 -- ---- the table
 

@@ -1,6 +1,6 @@
 -- Demand 3: one statement over lists of a room's calls. Assumes nothing: it is proved in proofs/Demand.antt.
 use mathlib.Core.Path.{_≡_}
-use mathlib.Core.List.{List, [], _∷_, List·Memᴰ}
+use mathlib.Core.List.{List, List·Memᴰ}
 use Prim.Native.Nat.{ℕ, _*_, _<_, _^_}
 use lib.ListN.{getD, take}
 use Rattle.merges.specs.Sound.{AllYes, SomeNo}
@@ -8,19 +8,19 @@ use Rattle.packets.specs.declared.TwoPcPhase.{TwoPcPhase}
 use Rattle.packets.specs.declared.TwoPcPhase.the-variants.{Prepare, Committed, Aborted}
 use Rattle.merges.specs.declared.merging.Held.the-variants.{Packet}
 use Rattle.engines.specs.Nodes.{total}
-use Rattle.engines.specs.declared.settings.Settings.{Settings}
 use Rattle.pipeline.specs.Pending.{noEntry}
 use Rattle.pipeline.specs.Pipeline.{noState}
 use Rattle.pipeline.specs.declared.two_pc_pipeline.TxLog.{TxLog}
-use Rattle.room.specs.declared.room.RoomKind.{RoomKind}
 use Rattle.room.specs.declared.room.RoomKind.the-variants as kinds
 use Rattle.room.specs.declared.room.Room.{Room}
-use Rattle.room.specs.Rooms.{sizeOf, noesOf, heldAt, openOf}
+use Rattle.room.specs.declared.room.Asked.{Asked}
+use Rattle.room.specs.Capturing.{noesOf}
+use Rattle.room.specs.Rooms.{sizeOf, heldAt, openOf}
 use Rattle.demand.specs.Calls.{Call, after, elapsed, moments}
 
 -- the log of position v
 abbrev pub logAt : Room → ℕ → TxLog
-logAt r v = getD (r .rounds .states) v noState .log
+logAt r v = getD (r .pipeline .states) v noState .log
 
 -- entry k of a log a is there, and is entry k of b too: the same transaction with the same outcome
 pub record Logged (a b : TxLog) (k : ℕ) : Type 0 where
@@ -45,8 +45,8 @@ SomeVoteNo r t = SomeNo (noesOf (r .conf)) (sizeOf r) t
 -- The demand's clauses: the room was opened as o, e slots have elapsed, a is an earlier moment and b is the present one. What is fixed is as it was opened.
 pub record Holds (o : Room) (e : ℕ) (a b : Room) : Type 0 where
   pub fixed : b .conf ≡ o .conf
-  pub slot : b .slot ≡ e
-  pub counts : total (take (sizeOf o) (b .nodes)) ≡ sizeOf o * e
+  pub slot : b .network .slot ≡ e
+  pub counts : total (take (sizeOf o) (b .network .nodes)) ≡ sizeOf o * e
   pub logged : (v k : ℕ) → v < sizeOf o → k < logAt a v .len → Logged (logAt a v) (logAt b v) k
   pub agreed : (u v t : ℕ) → HoldsPhase b u t Committed → HoldsPhase b v t Aborted → ⊥
   pub committed : (v t : ℕ) → HoldsPhase b v t Committed → AllVoteYes o t
@@ -57,10 +57,6 @@ pub record Holds (o : Room) (e : ℕ) (a b : Room) : Type 0 where
 -- For every accepted opening, every list of calls and every earlier moment.
 abbrev pub Demand3 : Type 0
 Demand3 =
-    (kind : RoomKind) (links : List ℕ) (settings : Settings) (transactions term interval bound : ℕ) → term < 2 ^ 64
-    → openOf kind links settings transactions term interval bound .refusal ≡ 0
-    → (calls : List Call) (a : Room) → List·Memᴰ a (moments calls (openOf kind links settings transactions term interval bound .room))
-    → Holds (openOf kind links settings transactions term interval bound .room)
-    (elapsed calls (openOf kind links settings transactions term interval bound .room))
-    a
-    (after calls (openOf kind links settings transactions term interval bound .room))
+    (asked : Asked) → asked .term < 2 ^ 64 → openOf asked .refusal ≡ 0
+    → (calls : List Call) (a : Room) → List·Memᴰ a (moments calls (openOf asked .room))
+    → Holds (openOf asked .room) (elapsed calls (openOf asked .room)) a (after calls (openOf asked .room))

@@ -4,9 +4,8 @@ use Prim.Native.Nat.{ℕ, _+_, _≤_}
 use lib.Dec.{eqb}
 use lib.ListN.{length}
 use Rattle.loops.specs.Pick.{either}
-use Rattle.engines.specs.declared.settings.Settings.{Settings}
-use Rattle.room.specs.declared.room.RoomKind.{RoomKind}
 use Rattle.room.specs.declared.room.Room.{Room}
+use Rattle.room.specs.declared.room.Asked.{Asked}
 use Rattle.room.specs.Rooms.{openOf, pipelineOf}
 use Rattle.demand.specs.Calls.{Call, Propose, CaptureRound, PipelineRound, Read, handed}
 
@@ -24,6 +23,4 @@ roundsIn (c ∷ cs) r = roundIn c r + roundsIn cs (handed c r)
 
 -- a room of T transactions accepts at most T + 1002, whatever the calls
 abbrev pub FewRounds : Type 0
-FewRounds =
-    (kind : RoomKind) (links : List ℕ) (settings : Settings) (transactions term interval bound : ℕ) (calls : List Call)
-    → roundsIn calls (openOf kind links settings transactions term interval bound .room) ≤ transactions + 1002
+FewRounds = (asked : Asked) (calls : List Call) → roundsIn calls (openOf asked .room) ≤ asked .transactions + 1002

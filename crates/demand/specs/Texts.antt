@@ -12,12 +12,11 @@ use Rattle.packets.specs.declared.CeTwoPcPacket.{CeTwoPcPacket}
 use Rattle.packets.specs.declared.CeRead.{CeRead}
 use Rattle.merges.specs.declared.merging.Held.{Held}
 use Rattle.merges.specs.declared.merging.Held.the-variants.{Empty, Unreadable, Packet}
-use Rattle.engines.specs.declared.settings.Settings.{Settings}
-use Rattle.room.specs.declared.room.RoomKind.{RoomKind}
 use Rattle.room.specs.declared.room.RoomKind.the-variants as kinds
 use Rattle.room.specs.declared.room.Room.{Room}
+use Rattle.room.specs.declared.room.Asked.{Asked}
 use Rattle.room.specs.Rooms.{sizeOf, heldAt, openOf}
-use Rattle.room.specs.Readings.{textOf, textLeft}
+use Rattle.readings.specs.Readings.{textOf, textLeft}
 use Rattle.demand.specs.Calls.{Call, after, moments}
 use Rattle.demand.specs.Demand.{HoldsPhase, AllVoteYes, SomeVoteNo}
 
@@ -54,9 +53,8 @@ pub record SameTexts (r : Room) : Type 0 where
 -- For every accepted opening, every list of calls and every moment of it.
 abbrev pub TextsGive : Type 0
 TextsGive =
-    (kind : RoomKind) (links : List ℕ) (settings : Settings) (transactions term interval bound : ℕ) → term < 2 ^ 64
-    → openOf kind links settings transactions term interval bound .refusal ≡ 0
-    → (calls : List Call) (a : Room) → List·Memᴰ a (moments calls (openOf kind links settings transactions term interval bound .room))
+    (asked : Asked) → asked .term < 2 ^ 64 → openOf asked .refusal ≡ 0
+    → (calls : List Call) (a : Room) → List·Memᴰ a (moments calls (openOf asked .room))
     → SameTexts a
 
 -- Demand 3's clauses on phases, of what the texts give: the room was opened as o, a is an earlier moment and b is the present one.
@@ -69,9 +67,6 @@ pub record TextsHold (o a b : Room) : Type 0 where
 
 abbrev pub Demand3Texts : Type 0
 Demand3Texts =
-    (kind : RoomKind) (links : List ℕ) (settings : Settings) (transactions term interval bound : ℕ) → term < 2 ^ 64
-    → openOf kind links settings transactions term interval bound .refusal ≡ 0
-    → (calls : List Call) (a : Room) → List·Memᴰ a (moments calls (openOf kind links settings transactions term interval bound .room))
-    → TextsHold (openOf kind links settings transactions term interval bound .room)
-    a
-    (after calls (openOf kind links settings transactions term interval bound .room))
+    (asked : Asked) → asked .term < 2 ^ 64 → openOf asked .refusal ≡ 0
+    → (calls : List Call) (a : Room) → List·Memᴰ a (moments calls (openOf asked .room))
+    → TextsHold (openOf asked .room) a (after calls (openOf asked .room))

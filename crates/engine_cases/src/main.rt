@@ -1,11 +1,14 @@
-// Replays capture rounds and prints our answers; the file `stdout` holds the Rust's answers to the same questions. Both files are made by
-// `differential/run --sample capture | differential/engine_cases.py`. A line is numbers in decimal with single blanks between them:
+// Replays capture rounds and prints our answers; the file `stdout` holds the Rust's answers to the same questions. Both
+// files are made by `differential/run --sample capture | differential/engine_cases.py`. A line is numbers in decimal with
+// single blanks between them:
 //   1 n topology argument timeout loss abort seed interval first step count
-//       opens a room; losses and abort probabilities are told by their place in a table; of its words each is the one before it and step
+//       opens a room; losses and abort probabilities are told by their place in a table; of its words each is the one
+//       before it and step
 //   2 term initiator             a proposal after that term
 //   3 place number               one number of the state, for packets given by hand
 //   4 initiator slots numbers    a round, with room for that many numbers of rows
-// The answer to 4 is the refusal, the first six numbers of the state, recoveries, frames tried and heard, and a digest of the whole state and of the rows.
+// The answer to 4 is the refusal, the first six numbers of the state, recoveries, frames tried and heard, and a digest of
+// the whole state and of the rows.
 ghost use Prim.Native.Nat.{_≤_};
 use engines_c::console;
 use engines_c::numbers;
@@ -140,7 +143,7 @@ fn propose(at: &[u64; 16], room: &[u64], state: &mut [u64]) {
     let none = [0u64; 1];
     let packet = merging::init_proposal(voting, at[1], at[2] as usize);
     let mut held = payloads::held_of(&none, 0);
-    let i = (at[2] % 64) as usize;
+    let i = at[2] as usize % limits::POSITIONS;
     let h = Held::Packet;
     held[i] = Payload { held: h, packet };
     payloads::put_held(state, 528, held);
@@ -258,7 +261,7 @@ fn main() {
     let mut room = [0u64; 16];
     let mut state = [0u64; 2960];
     let mut words = [0u64; 4096];
-    let mut links = [0u64; 64];
+    let mut links = [0u64; limits::POSITIONS];
     let mut rows = [0u64; 600];
     let mut l = empty_line();
     let mut i: usize = 0;

@@ -8,7 +8,7 @@ use native.Mathlib.Nat.{mod-eq-of-lt}
 use native.Mathlib.Omega.{arith}
 use Rattle.loops.specs.Upto.{upto, upto-keeps}
 use Rattle.loops.specs.Each.{upto-each}
-use Rattle.engines.specs.Limits.{atMost64}
+use Rattle.engines.specs.Clamp.{atMost64}
 use Rattle.engines.specs.Nodes.{inc, noNode, ticked, tickedIn, tickAt, tickedAll, slots, total, Below, none, more}
 use Rattle.engines.specs.declared.node.Node.{Node}
 use Rattle.engines.specs.declared.node.NodeState.{NodeState}

@@ -6,7 +6,6 @@ use mathlib.Core.List.{List}
 use mathlib.Core.Path.{_≡_, refl}
 use lib.Dec.{ltb}
 use lib.ListN.{length, getD}
-use lib.Ieee.{Float}
 use native.Mathlib.Omega.{arith}
 use borrow.Author.Tests.{ltb-true}
 use Rattle.loops.specs.Pick.{either}
@@ -14,18 +13,11 @@ use Rattle.loops.specs.Upto.{upto}
 use Rattle.loops.specs.Downto.{downto}
 use Rattle.loops.specs.Runs.{go}
 use Rattle.marks.specs.Marks.{has}
-use Rattle.engines.specs.Limits.{atMost64}
+use Rattle.engines.specs.Clamp.{atMost64}
 use Rattle.engines.specs.Marked.{overMarks}
-use Rattle.engines.specs.Settings.{isLossy}
 use Rattle.engines.specs.Words.{nextOf, Order, swapStep, shuffled}
-use Rattle.engines.specs.Nodes.{noNode}
-use Rattle.engines.specs.Plan.{timedOut, tossed1, tossAt, coinsOf, sendersOf, examine1, isFound, unheard, firstKept, heardFrom, captureOf, tallied, Captured, captureAt, targetsOf, noneYet, capturesOf, planAfter, planOf}
 use Rattle.engines.specs.declared.words.Draw.{Draw}
 use Rattle.engines.specs.declared.words.Drawn.{Drawn}
-use Rattle.engines.specs.declared.node.Node.{Node}
-use Rattle.engines.specs.declared.node.StateSets.{StateSets}
-use Rattle.engines.specs.declared.plan.Coins.{Coins}
-use Rattle.engines.specs.declared.plan.Heard.{Heard}
 
 -- e is a cursor that draws have brought d to
 pub record Later (ws : List ℕ) (d e : Draw) : Type 0 where
@@ -82,34 +74,3 @@ module _ (ws : List ℕ) where
   pub shuffled-later : (count : ℕ) (o : Order) → Later ws (o .draw) (shuffled ws count o .draw)
   unfolding shuffled
   shuffled-later count o = downto-later (λ (o : Order). o .draw) (swapStep ws) swap-later (atMost64 count - 1) o
-
-  toss-later : (slot timeout : ℕ) (v : Node) (i : ℕ) (c : Coins) → Later ws (c .draw) (tossed1 ws slot timeout v i c .draw)
-  unfolding tossed1
-  toss-later slot timeout v i c = either-later (λ (c : Coins). c .draw) (c .draw) (timedOut slot timeout v) _ c (next-later (c .draw)) (later-same (c .draw))
-
-  pub coins-later : (slot timeout : ℕ) (nodes : List Node) (listening : ℕ) (d : Draw) → Later ws d (coinsOf ws slot timeout nodes listening d .draw)
-  unfolding coinsOf
-  coins-later slot timeout nodes listening d = marks-later (λ (c : Coins). c .draw) (tossAt ws slot timeout nodes) (λ i c. toss-later slot timeout (getD nodes i noNode) i c) listening (record { recovering = 0; draw = d })
-
-  examine-later : (ids : List ℕ) (loss : Float) (h : Heard) → Later ws (h .draw) (examine1 ws ids loss h .draw)
-  unfolding examine1
-  examine-later ids loss h = either-later (λ (h : Heard). h .draw) (h .draw) (isLossy loss) _ _ (next-later (h .draw)) (later-same (h .draw))
-
-  pub capture-later : (loss : Float) (links : List ℕ) (flooding t : ℕ) (d : Draw) → Later ws d (captureOf ws loss links flooding t d .draw)
-  unfolding captureOf heardFrom firstKept
-  capture-later loss links flooding t d =
-      let f = sendersOf links flooding t in
-      let o = shuffled ws (f .count) (record { ids = f .ids; draw = d }) in
-      later-trans (shuffled-later (f .count) (record { ids = f .ids; draw = d })) (go-later (λ (h : Heard). h .draw) isFound (examine1 ws (o .ids) loss) (examine-later (o .ids) loss) (f .count) false (unheard (o .draw)))
-
-  captured-later : (loss : Float) (links : List ℕ) (flooding t : ℕ) (p : Captured) → Later ws (p .tally .draw) (captureAt ws loss links flooding t p .tally .draw)
-  unfolding captureAt tallied
-  captured-later loss links flooding t p = capture-later loss links flooding t (p .tally .draw)
-
-  -- the plan of a slot
-  pub plan-later : (loss : Float) (links : List ℕ) (slot timeout : ℕ) (nodes : List Node) (s : StateSets) (d : Draw) → Later ws d (planOf ws loss links slot timeout nodes s d .draw)
-  unfolding planOf planAfter capturesOf
-  plan-later loss links slot timeout nodes s d =
-      let c = coinsOf ws slot timeout nodes (s .listening) d in
-      later-trans (coins-later slot timeout nodes (s .listening) d)
-      (marks-later (λ (p : Captured). p .tally .draw) (captureAt ws loss links (s .flooding)) (captured-later loss links (s .flooding)) (targetsOf (s .listening) (c .recovering)) (noneYet (c .draw)))

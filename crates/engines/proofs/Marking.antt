@@ -12,7 +12,6 @@ use Rattle.marks.specs.Marks.{has, countOf, Lowest}
 use Rattle.marks.specs.Laws.{has-none, has-out}
 use Rattle.marks.specs.Sets.{and-true, lowest-lt, count-grows, marks-is}
 use Rattle.engines.specs.Marked.{overMarks, withMark}
-use Rattle.engines.specs.Plan.{targetsOf}
 
 -- m′ is m without r, its lowest mark
 pub record Without (m r m′ : ℕ) : Type 0 where
@@ -97,14 +96,6 @@ with-is m i r h g e = marks-is 64 (λ j. has m j || eqb j i) r (omega arith) g (
     by : (j : ℕ) (t : Bool) → ltb j 64 ≡ t → (has m j || (t && eqb j i)) ≡ (t && (has m j || eqb j i))
     by j true p = refl
     by j false p = rw (has-out 64 m j h (ltb-false j 64 p))
-
-pub targets-is : (a b r : ℕ) → a < 2 ^ 64 → r < 2 ^ 64 → ((j : ℕ) → has r j ≡ (has a j && not (has b j))) → r ≡ targetsOf a b
-unfolding targetsOf
-targets-is a b r h g e = marks-is 64 (λ j. has a j && not (has b j)) r (omega arith) g (λ j. e j ∙ by j (ltb j 64) refl)
-  where
-    by : (j : ℕ) (t : Bool) → ltb j 64 ≡ t → (has a j && not (has b j)) ≡ (t && (has a j && not (has b j)))
-    by j true p = refl
-    by j false p = rw (has-out 64 a j h (ltb-false j 64 p))
 
 -- a set with a lowest mark has marks
 pub some-marks : (m r : ℕ) → m < 2 ^ 64 → (m ≡ 0 → ⊥) → Lowest m r → 0 < countOf m 64

@@ -1,14 +1,13 @@
 -- A row written into the part that is lent is a row behind the rows used; and refusal 17 by quotients. Assumes nothing.
-use Prim.Native.Nat.{ℕ, _+_, _-_, _*_, _/_, _≤_, _<_}
+use Prim.Native.Nat.{ℕ, _-_, _*_, _/_, _≤_, _<_}
 use mathlib.Core.Bool.{Bool, true, false}
-use mathlib.Core.List.{List, _++_}
+use mathlib.Core.List.{List}
 use mathlib.Core.Path.{_≡_, refl}
-use lib.ListN.{length, take, drop, length-take, length-drop}
+use lib.ListN.{length}
 use lib.Seq.{sets, length-sets}
 use native.Mathlib.Omega.{arith}
-use borrow.Author.Tests.{lt-ltb, le-ltb, le-leb, lt-leb}
-use Rattle.loops.specs.Stores.{sets-part}
-use Rattle.engines.specs.Rows.{cells, putRow, putBehind, rowsRefused}
+use borrow.Author.Tests.{lt-ltb, le-ltb}
+use Rattle.engines.specs.Rows.{cells, putRow, rowsRefused}
 use Rattle.engines.specs.declared.rows.Row.{Row}
 
 pub put-length : (l : List ℕ) (r : Row) → length (putRow l r) ≡ length l
@@ -18,18 +17,6 @@ put-length l r = by (lib.Dec.ltb (length l) 5)
     by : (b : Bool) → length (Rattle.loops.specs.Pick.either b l (sets l 0 (cells r))) ≡ length l
     by true = refl
     by false = length-sets l 0 (cells r)
-
-pub behind-full : (l : List ℕ) (used : ℕ) (r : Row) → length l / 5 ≤ used → l ≡ putBehind l used r
-unfolding putBehind
-behind-full l used r h = rw (lt-leb (used * 5 + 5) (length l) (omega arith))
-
-pub behind-part : (l : List ℕ) (used : ℕ) (r : Row) → used < length l / 5
-    → take (used * 5) l ++ (putRow (take (length l - used * 5) (drop (used * 5) l)) r ++ drop (length l - used * 5) (drop (used * 5) l)) ≡ putBehind l used r
-unfolding putBehind putRow
-behind-part l used r h =
-    let part = take (length l - used * 5) (drop (used * 5) l) in
-    let long : 5 ≤ length part = simp (length-take, length-drop) (omega arith) in
-    rw (le-leb (used * 5 + 5) (length l) (omega arith), le-ltb (length part) 5 long) (sets-part (cells r) l (used * 5) (omega arith))
 
 module _ (numbers used due : ℕ) where
   pub refused-used : numbers / 5 < used → true ≡ rowsRefused numbers used due

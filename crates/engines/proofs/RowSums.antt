@@ -10,7 +10,7 @@ use native.Mathlib.Omega.{arith}
 use borrow.Author.Tests.{ltb-true, ltb-false}
 use Rattle.marks.specs.Marks.{marks, countOf}
 use Rattle.marks.specs.Sets.{has-marks}
-use Rattle.engines.specs.Limits.{atMost64}
+use Rattle.engines.specs.Clamp.{atMost64}
 use Rattle.engines.specs.Nodes.{noNode, isListen, isFlood, isSleep, listens, floods, sleeps, setsOf}
 use Rattle.engines.specs.Rows.{rowOf}
 use Rattle.engines.specs.declared.node.Node.{Node}

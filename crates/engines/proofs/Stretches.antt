@@ -7,9 +7,10 @@ use native.Mathlib.Omega.{arith}
 use Rattle.loops.specs.Upto.{upto}
 use Rattle.loops.specs.Each.{each, each-twice, each-get, each-length}
 use Rattle.marks.specs.Sets.{marks-ext}
-use Rattle.engines.specs.Limits.{atMost64}
+use Rattle.engines.specs.Clamp.{atMost64}
 use Rattle.engines.specs.Nodes.{noNode, isListen, isFlood, isSleep, listens, floods, sleeps, setsOf, ticked, tickedIn, tickAt, tickedAll}
-use Rattle.engines.specs.Stretch.{add64, passedIn, passed, passedAll}
+use Rattle.engines.specs.Stretch.{passedIn, passed, passedAll}
+use Rattle.loops.specs.Wrap.{add64}
 use Rattle.engines.specs.declared.node.Node.{Node}
 use Rattle.engines.specs.declared.node.NodeState.{NodeState}
 use Rattle.engines.specs.declared.node.NodeState.the-variants.{Listen, Flood, Sleep}

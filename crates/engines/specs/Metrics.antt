@@ -1,5 +1,5 @@
 -- Document 01, "After the rounds": the two ratios. Assumes nothing.
-use Prim.Native.Nat.{ℕ}
+use Prim.Native.Nat.{ℕ, _+_, _%_, _^_}
 use lib.Dec.{eqb}
 use lib.IntN.{pos}
 use lib.Ieee.{binary64, div, ofInt}
@@ -30,3 +30,17 @@ linkPdr m = ratioOf (m .«rx_success») (m .«rx_attempts»)
 
 unfoldable pub floodCoverage : MetricsCollector → Ratio
 floodCoverage m = ratioOf (m .«flood_nodes_covered») (m .«flood_nodes_total»)
+
+-- frames tried and received, added to what was counted before
+unfoldable pub withFrames : ℕ → ℕ → MetricsCollector → MetricsCollector
+withFrames attempts success m =
+    record {
+      «nacks_sent» = m .«nacks_sent»;
+      «piggybacks_sent» = m .«piggybacks_sent»;
+      «ce_timeouts» = m .«ce_timeouts»;
+      «rx_attempts» = (m .«rx_attempts» + attempts) % 2 ^ 64;
+      «rx_success» = (m .«rx_success» + success) % 2 ^ 64;
+      «flood_rounds» = m .«flood_rounds»;
+      «flood_nodes_total» = m .«flood_nodes_total»;
+      «flood_nodes_covered» = m .«flood_nodes_covered»;
+    }

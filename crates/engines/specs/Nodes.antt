@@ -2,10 +2,11 @@
 use Prim.Native.Nat.{ℕ, _+_, _%_, _^_, _<_}
 use mathlib.Core.Bool.{Bool, true, false}
 use mathlib.Core.List.{List, [], _∷_}
+use mathlib.Core.Path.{_≡_}
 use lib.ListN.{set, getD}
 use Rattle.loops.specs.Upto.{upto}
 use Rattle.marks.specs.Marks.{marks}
-use Rattle.engines.specs.Limits.{atMost64}
+use Rattle.engines.specs.Clamp.{atMost64}
 use Rattle.engines.specs.declared.node.Node.{Node}
 use Rattle.engines.specs.declared.node.StateSets.{StateSets}
 use Rattle.engines.specs.declared.node.NodeState.{NodeState}
@@ -81,6 +82,12 @@ slots v = v .«slots_listen» + v .«slots_flood» + v .«slots_sleep»
 unfoldable pub total : List Node → ℕ
 total [] = 0
 total (v ∷ l) = slots v + total l
+
+-- v and w have the same three counts
+pub record Alike (v w : Node) : Type 0 where
+  pub listen : v .«slots_listen» ≡ w .«slots_listen»
+  pub flood : v .«slots_flood» ≡ w .«slots_flood»
+  pub sleep : v .«slots_sleep» ≡ w .«slots_sleep»
 
 -- every count lies below b
 pub data Below (b : ℕ) : List Node → Type 0 where

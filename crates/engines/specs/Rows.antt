@@ -8,8 +8,8 @@ use lib.Seq.{sets}
 use Rattle.loops.specs.Pick.{either}
 use Rattle.loops.specs.Highest.{highest}
 use Rattle.marks.specs.Marks.{countOf}
-use Rattle.engines.specs.Limits.{atMost64}
-use Rattle.engines.specs.Nodes.{noNode, setsOf}
+use Rattle.engines.specs.Clamp.{atMost64}
+use Rattle.engines.specs.Nodes.{inc, noNode, setsOf}
 use Rattle.engines.specs.declared.node.Node.{Node}
 use Rattle.engines.specs.declared.rows.Row.{Row}
 
@@ -34,6 +34,10 @@ isDue next slot = leb next slot
 unfoldable pub nextRow : ℕ → ℕ → ℕ → ℕ
 nextRow next interval slot = either (isDue next slot) ((next + interval) % 2 ^ 64) next
 
+-- one row more, if the slot has one
+unfoldable pub dueAfter : ℕ → ℕ → ℕ → ℕ
+dueAfter due next slot = either (isDue next slot) (inc due) due
+
 -- the five numbers
 abbrev pub cells : Row → List ℕ
 cells r = r .slot ∷ r .progress ∷ r .listening ∷ r .flooding ∷ r .sleeping ∷ []
@@ -41,10 +45,6 @@ cells r = r .slot ∷ r .progress ∷ r .listening ∷ r .flooding ∷ r .sleepi
 -- A row at the start of a part, if the part holds it whole.
 unfoldable pub putRow : List ℕ → Row → List ℕ
 putRow part r = either (ltb (length part) 5) part (sets part 0 (cells r))
-
--- A row behind the rows already used, if the rest holds it whole; all else stays.
-unfoldable pub putBehind : List ℕ → ℕ → Row → List ℕ
-putBehind rows used r = either (leb (used * 5 + 5) (length rows)) (sets rows (used * 5) (cells r)) rows
 
 -- Refusal 17: more rows used than the buffer has numbers for, or too few numbers behind them for the rows that are due.
 unfoldable pub rowsRefused : ℕ → ℕ → ℕ → Bool

@@ -8,7 +8,7 @@ use lib.IntN.{pos}
 use lib.Ieee.{Float, binary64, div, ofInt, ofBits, lt}
 use Rattle.loops.specs.Pick.{either}
 use Rattle.loops.specs.Downto.{downto}
-use Rattle.engines.specs.Limits.{atMost64}
+use Rattle.engines.specs.Clamp.{atMost64}
 use Rattle.engines.specs.declared.words.Draw.{Draw}
 use Rattle.engines.specs.declared.words.Drawn.{Drawn}
 

@@ -1,14 +1,10 @@
-// The capture round, and what both kinds of rounds are made of: words and draws, ticks and counts, rows, metrics and settings. With
+// What both kinds of round are made of: words and draws, ticks and counts, rows, metrics and settings. With `capture`, `flood` and
 // `pipeline` the third of the layers.
-pub mod capture;
-pub mod ce;
-pub mod idle;
-pub mod limits;
+pub mod clamp;
 pub mod metrics;
+pub mod network;
 pub mod node;
-pub mod plan;
 pub mod rows;
 pub mod settings;
 pub mod stretch;
-pub mod turns;
 pub mod words;

@@ -1,6 +1,6 @@
 // Ported from metrics.rs: what a room counts beside its positions' counts, and the two ratios.
 ghost use mathlib.Core.Path.{_≡_};
-ghost use Rattle.engines.specs.Metrics.{noMetrics, ratioOf, linkPdr, floodCoverage};
+ghost use Rattle.engines.specs.Metrics.{noMetrics, ratioOf, linkPdr, floodCoverage, withFrames};
 
 // All counts add in 64 bits.
 pub struct MetricsCollector {
@@ -45,6 +45,16 @@ impl MetricsCollector {
             flood_nodes_total: 0,
             flood_nodes_covered: 0,
         }
+    }
+
+    // Frames tried and received, added to those counted before.
+    pub fn count_frames(self, attempts: u64, success: u64) -> MetricsCollector
+        ensures { λ r. ⌜ r ≡ withFrames attempts success self ⌝ }
+    {
+        let mut m = self;
+        m.rx_attempts = std::num::wrapping_add_u64(self.rx_attempts, attempts);
+        m.rx_success = std::num::wrapping_add_u64(self.rx_success, success);
+        m
     }
 
     // Frames received of the frames that could have been.

@@ -5,7 +5,7 @@ ghost use Prim.Native.Nat.{ℕ};
 ghost use lib.Dec.{eqb, ltb};
 ghost use Rattle.marks.specs.Marks.{has};
 ghost use Rattle.engines.specs.Nodes.{noNode, resetRound, ticked, tickedAll, isListen, isFlood, isSleep, setsOf};
-use super::limits;
+use super::clamp;
 use graph::sets;
 
 pub enum NodeState {
@@ -76,7 +76,7 @@ impl Node {
 pub fn tick_all(at: [Node; 64], n: usize) -> [Node; 64]
     ensures { λ r. ⌜ r ≡ tickedAll n at ⌝ }
 {
-    let count = limits::at_most_64(n);
+    let count = clamp::at_most_64(n);
     let mut a = at;
     let mut i: usize = 0;
     while i < count {
@@ -113,7 +113,7 @@ fn note_state(s: StateSets, state: NodeState, i: usize) -> StateSets
 pub fn state_sets(at: [Node; 64], n: usize) -> StateSets
     ensures { λ r. ⌜ r ≡ setsOf n at ⌝ }
 {
-    let count = limits::at_most_64(n);
+    let count = clamp::at_most_64(n);
     let mut s = StateSets {
         listening: 0,
         flooding: 0,

@@ -1,8 +1,10 @@
 // Rows: at every row slot five numbers on the whole network, written one behind the other into a lent buffer.
 ghost use mathlib.Core.Path.{_≡_};
-ghost use Prim.Native.Nat.{max};
-ghost use Rattle.engines.specs.Rows.{highestProgress, rowOf, isDue, nextRow, putRow, putBehind, rowsRefused};
-use super::limits;
+ghost use Prim.Native.Nat.{_-_, max};
+ghost use lib.Dec.{ltb};
+ghost use Rattle.limits.specs.Limits.{rowCells};
+ghost use Rattle.engines.specs.Rows.{highestProgress, rowOf, isDue, nextRow, dueAfter, putRow, rowsRefused};
+use super::clamp;
 use super::node::Node;
 use graph::sets;
 
@@ -24,7 +26,7 @@ fn larger(a: u64, b: u64) -> u64
 fn highest_progress(at: [Node; 64], n: usize) -> u64
     ensures { λ r. ⌜ r ≡ highestProgress n at ⌝ }
 {
-    let count = limits::at_most_64(n);
+    let count = clamp::at_most_64(n);
     let mut p: u64 = 0;
     let mut i: usize = 0;
     while i < count {
@@ -66,6 +68,16 @@ pub fn next_row(next: u64, interval: u64, slot: u64) -> u64
     next
 }
 
+// How many rows are due once a slot has begun, of which `due` were before it.
+pub fn due_after(due: u64, next_row: u64, slot: u64) -> u64
+    ensures { λ r. ⌜ r ≡ dueAfter due «next_row» slot ⌝ }
+{
+    if row_due(next_row, slot) {
+        return std::num::wrapping_add_u64(due, 1);
+    }
+    due
+}
+
 // A row at the start of the part that is lent; a part too short for it stays as it is.
 pub fn put_row(part: &mut [u64], r: Row)
     ensures { λ _. ⌜ now (part .exit) ≡ putRow (now (part .entry)) r ⌝ }
@@ -80,15 +92,14 @@ pub fn put_row(part: &mut [u64], r: Row)
     part[4] = r.sleeping;
 }
 
-// A row behind those already used: the part not yet used is lent to the writer. Quotients stand for products, which could wrap.
-pub fn put_behind(rows: &mut [u64], used: usize, r: Row)
-    ensures { λ _. ⌜ now (rows .exit) ≡ putBehind (now (rows .entry)) used r ⌝ }
+// Whether no row fits behind the first `at` of so many numbers.
+pub fn is_full(numbers: usize, at: usize) -> bool
+    ensures { λ r. ⌜ r ≡ ltb (numbers - at) rowCells ⌝ }
 {
-    if rows.len() / 5 <= used {
-        return;
+    if numbers <= at {
+        return true;
     }
-    let start = used * 5;
-    put_row(&mut rows[start..], r);
+    numbers - at < limits::ROW
 }
 
 // Refusal 17: more rows are used than the buffer has, or more are due than the rest of it holds whole.

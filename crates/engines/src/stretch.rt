@@ -2,7 +2,7 @@
 ghost use mathlib.Core.Path.{_≡_};
 ghost use Prim.Native.Nat.{_-_};
 ghost use Rattle.engines.specs.Stretch.{passed, passedAll};
-use super::limits;
+use super::clamp;
 use super::node::Node;
 use super::node::NodeState;
 
@@ -37,7 +37,7 @@ fn pass(v: Node, k: u64) -> Node
 pub fn pass_all(at: [Node; 64], n: usize, k: u64) -> [Node; 64]
     ensures { λ r. ⌜ r ≡ passedAll n k at ⌝ }
 {
-    let count = limits::at_most_64(n);
+    let count = clamp::at_most_64(n);
     let mut a = at;
     let mut i: usize = 0;
     while i < count {

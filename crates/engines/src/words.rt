@@ -2,7 +2,7 @@
 ghost use mathlib.Core.Path.{_≡_};
 ghost use Prim.Native.Nat.{_<_, _+_, _%_};
 ghost use Rattle.engines.specs.Words.{unitOf, nextOf, coinOf, lostOf, pickOf, swapStep, shuffled};
-use super::limits;
+use super::clamp;
 
 // The place of the next word, and whether a word was asked for past the end. The cursor may be any number.
 pub struct Draw {
@@ -86,7 +86,7 @@ fn swap_step(words: &[u64], ids: &mut [usize; 64], i: usize, d: Draw) -> Draw
 pub fn shuffle(words: &[u64], ids: &mut [usize; 64], count: usize, d: Draw) -> Draw
     ensures { λ r. ⌜ record { ids = now (ids .exit); draw = r } ≡ shuffled (now (words .entry)) count (record { ids = now (ids .entry); draw = d }) ⌝ }
 {
-    let last = limits::at_most_64(count);
+    let last = clamp::at_most_64(count);
     if last == 0 {
         return d;
     }

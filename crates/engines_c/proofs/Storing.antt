@@ -1,10 +1,10 @@
 -- Numbers put into a list that may be too short for them. Assumes nothing.
-use mathlib.Core.Path.{_≡_, refl, sym, ap, _∙_}
+use mathlib.Core.Path.{_≡_, refl, sym, _∙_}
 use mathlib.Core.List.{List, [], _∷_, append-nil}
 use Prim.Native.Nat.{ℕ, suc, _+_, _-_, _≤_, _<_}
 use native.Mathlib.Numerals.{add-one}
 use native.Mathlib.Omega.{arith}
-use lib.ListN.{length, take, getD, set, replicate}
+use lib.ListN.{length, take, getD, set}
 use lib.Seq.{sets, take-suc, length-take-le, length-sets, set-out, ext-getD}
 use Rattle.loops.specs.Table.{tabulate, filled, filled-at, length-filled}
 use Rattle.merges.specs.declared.merging.Payload.{Payload}

@@ -1,12 +1,13 @@
--- Document 01, "Where each language form belongs", entries on slices and numbers: what a lent list of numbers says of nodes and counts.
--- Assumes nothing.
+-- Document 01, "Where each language form belongs", entries on slices and numbers: what a lent list of numbers says of
+-- nodes, counts and a network. Assumes nothing.
 use mathlib.Core.Bool.{Bool, true, false}
 use mathlib.Core.List.{List, [], _∷_}
 use Prim.Native.Nat.{ℕ, _+_, _*_, _%_, _^_}
 use mir.Val.{boolByte}
 use lib.Dec.{eqb}
-use lib.ListN.{getD}
+use lib.ListN.{getD, set}
 use lib.Seq.{sets}
+use Rattle.limits.specs.Limits.{positions}
 use Rattle.loops.specs.Pick.{either}
 use Rattle.loops.specs.Table.{tabulate}
 use Rattle.loops.specs.Upto.{upto}
@@ -15,6 +16,7 @@ use Rattle.engines.specs.declared.node.Node.{Node}
 use Rattle.engines.specs.declared.node.NodeState.{NodeState}
 use Rattle.engines.specs.declared.node.NodeState.the-variants.{Listen, Flood, Sleep}
 use Rattle.engines.specs.declared.metrics.MetricsCollector.{MetricsCollector}
+use Rattle.engines.specs.declared.network.Network.{Network}
 
 -- the number k places behind at, and 0 past the end
 abbrev pub cell : List ℕ → ℕ → ℕ → ℕ
@@ -49,18 +51,18 @@ nodeAt xs at k =
 
 abbrev pub nodeNumbers : Node → List ℕ
 nodeNumbers v =
-    stateNumber (v .state) ∷ v .«flood_remaining» ∷ v .«last_progress_slot» ∷ boolByte (v .«goal_reached») ∷ v .«progress_count» ∷ v .«slots_listen» ∷ v .«slots_flood» ∷
-    v .«slots_sleep» ∷ []
+    stateNumber (v .state) ∷ v .«flood_remaining» ∷ v .«last_progress_slot» ∷ boolByte (v .«goal_reached») ∷
+    v .«progress_count» ∷ v .«slots_listen» ∷ v .«slots_flood» ∷ v .«slots_sleep» ∷ []
 
--- 64 nodes, one behind the other
+-- a node for each position, one behind the other
 unfoldable pub nodesAt : List ℕ → ℕ → List Node
-nodesAt xs at = tabulate 64 (λ i. nodeAt xs at (i * 8))
+nodesAt xs at = tabulate positions (λ i. nodeAt xs at (i * 8))
 
 abbrev pub putNode : ℕ → List Node → ℕ → List ℕ → List ℕ
 putNode at nodes i xs = sets xs (at + i * 8) (nodeNumbers (getD nodes i noNode))
 
 unfoldable pub putNodes : ℕ → List Node → List ℕ → List ℕ
-putNodes at nodes xs = upto 64 (putNode at nodes) xs
+putNodes at nodes xs = upto positions (putNode at nodes) xs
 
 -- The counts of a room are 8 numbers in the order of their fields.
 unfoldable pub metricsAt : List ℕ → ℕ → MetricsCollector
@@ -78,4 +80,24 @@ metricsAt xs at =
 
 abbrev pub metricsNumbers : MetricsCollector → List ℕ
 metricsNumbers m =
-    m .«nacks_sent» ∷ m .«piggybacks_sent» ∷ m .«ce_timeouts» ∷ m .«rx_attempts» ∷ m .«rx_success» ∷ m .«flood_rounds» ∷ m .«flood_nodes_total» ∷ m .«flood_nodes_covered» ∷ []
+    m .«nacks_sent» ∷ m .«piggybacks_sent» ∷ m .«ce_timeouts» ∷ m .«rx_attempts» ∷ m .«rx_success» ∷
+    m .«flood_rounds» ∷ m .«flood_nodes_total» ∷ m .«flood_nodes_covered» ∷ []
+
+-- A network is its slot and next row slot, then its bytes sent, its counts and its nodes, each at a place of its own.
+unfoldable pub networkAt : List ℕ → ℕ → ℕ → ℕ → Network
+networkAt xs sent counts at =
+    record {
+      nodes = nodesAt xs at;
+      metrics = metricsAt xs counts;
+      slot = getD xs 0 0;
+      «next_row» = getD xs 1 0;
+      «bytes_sent» = getD xs sent 0;
+    }
+
+-- slot, next row slot and bytes sent
+abbrev pub putClock : ℕ → Network → List ℕ → List ℕ
+putClock sent w xs = set (set (set xs 0 (w .slot)) 1 (w .«next_row»)) sent (w .«bytes_sent»)
+
+unfoldable pub putNetwork : ℕ → ℕ → ℕ → Network → List ℕ → List ℕ
+putNetwork sent counts at w xs =
+    putNodes at (w .nodes) (sets (putClock sent w xs) counts (metricsNumbers (w .metrics)))

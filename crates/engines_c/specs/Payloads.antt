@@ -1,10 +1,11 @@
--- Document 01, "Where each language form belongs", entries on slices and numbers: what a lent list of numbers says of what positions hold.
--- Assumes nothing.
+-- Document 01, "Where each language form belongs", entries on slices and numbers: what a lent list of numbers says of
+-- what positions hold. Assumes nothing.
 use mathlib.Core.List.{List, [], _∷_}
 use Prim.Native.Nat.{ℕ, _+_, _*_, _%_}
 use lib.Dec.{eqb}
 use lib.ListN.{getD}
 use lib.Seq.{sets}
+use Rattle.limits.specs.Limits.{positions, dataBytes}
 use Rattle.loops.specs.Pick.{either}
 use Rattle.loops.specs.Table.{tabulate}
 use Rattle.loops.specs.Upto.{upto}
@@ -27,7 +28,7 @@ heldNumbered n = either (eqb n 0) Empty (either (eqb n 1) Unreadable Packet)
 
 -- a number that is no byte gives its low eight digits
 unfoldable pub bytesAt : List ℕ → ℕ → ℕ → List ℕ
-bytesAt xs at k = tabulate 32 (λ i. cell xs at (k + i) % 256)
+bytesAt xs at k = tabulate dataBytes (λ i. cell xs at (k + i) % 256)
 
 -- A payload is 38 numbers: what it is, term, phase, lengths of data and bitmap, marks, bytes.
 abbrev pub packetAt : List ℕ → ℕ → ℕ → CeTwoPcPacket
@@ -42,15 +43,15 @@ packetAt xs at k =
 unfoldable pub payloadAt : List ℕ → ℕ → ℕ → Payload
 payloadAt xs at k = record { held = heldNumbered (cell xs at k); packet = packetAt xs at k }
 
--- 64 payloads, one behind the other
+-- a payload for each position, one behind the other
 unfoldable pub heldAt : List ℕ → ℕ → List Payload
-heldAt xs at = tabulate 64 (λ i. payloadAt xs at (i * 38))
+heldAt xs at = tabulate positions (λ i. payloadAt xs at (i * 38))
 
 -- the numbers in front of the bytes
 abbrev pub payloadNumbers : Payload → List ℕ
 payloadNumbers l =
-    heldNumber (l .held) ∷ l .packet .term ∷ phaseNumber (l .packet .phase) ∷ l .packet .«proposal_data» .len ∷ l .packet .«flags_bitmap» .len ∷
-    l .packet .«flags_bitmap» .marks ∷ []
+    heldNumber (l .held) ∷ l .packet .term ∷ phaseNumber (l .packet .phase) ∷ l .packet .«proposal_data» .len ∷
+    l .packet .«flags_bitmap» .len ∷ l .packet .«flags_bitmap» .marks ∷ []
 
 unfoldable pub putPayload : ℕ → ℕ → Payload → List ℕ → List ℕ
 putPayload at k l xs = sets (sets xs (at + k) (payloadNumbers l)) (at + (k + 6)) (l .packet .«proposal_data» .bytes)
@@ -59,4 +60,4 @@ abbrev pub putPlace : ℕ → List Payload → ℕ → List ℕ → List ℕ
 putPlace at held i xs = putPayload at (i * 38) (getD held i noPayload) xs
 
 unfoldable pub putHeld : ℕ → List Payload → List ℕ → List ℕ
-putHeld at held xs = upto 64 (putPlace at held) xs
+putHeld at held xs = upto positions (putPlace at held) xs

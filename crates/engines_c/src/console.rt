@@ -1,102 +1,119 @@
-// The entry for the differential runs: a capture round on a state that is a lent list of numbers. The answer is the refusal, 0 for none; a refused call
-// writes nothing.
+// The entry for the differential runs: a capture round on a state that is a lent list of numbers. The answer is the
+// refusal, 0 for none; a refused call writes nothing.
 ghost use mathlib.Core.Path.{_≡_};
-ghost use lib.ListN.{length, getD};
-ghost use lib.Seq.{sets};
-ghost use Rattle.graph.specs.Console.{first, unless};
-ghost use Rattle.engines_c.specs.Console.{askedOf, linksOf, confOf, stateAt, counters, putState, toldOf, rowsLeft};
+ghost use Rattle.engines_c.specs.Console.{askedOf, linksOf, confOf, stateAt, counters, putState, Answered};
 use super::numbers;
 use super::payloads;
-use engines::capture;
-use engines::capture::CeAnswer;
-use engines::capture::CeRound;
-use engines::capture::CeState;
+use capture::capture::CeAnswer;
+use capture::capture::CeState;
+use engines::network::RoundConf;
 use engines::settings::Settings;
 use engines::words::Draw;
-use merges::votes::Voting;
+use graph::network::NetworkGraph;
+use limits::refusals;
 
-// 2 for a count of positions outside 1 to 64, then 8 for an initiator that is none of them.
+// The refusal of a count of positions, then that of an initiator that is none of them.
 fn asked(n: usize, initiator: usize) -> u64
     ensures { λ r. ⌜ r ≡ askedOf n initiator ⌝ }
 {
     if n == 0 {
-        return 2;
+        return refusals::BAD_POSITIONS;
     }
-    if 64 < n {
-        return 2;
+    if limits::POSITIONS < n {
+        return refusals::BAD_POSITIONS;
     }
     if n <= initiator {
-        return 8;
+        return refusals::NO_POSITION;
     }
     0
 }
 
-// The first 64 rows of links; missing ones are empty.
-fn links_of(links: &[u64]) -> [u64; 64]
+// A row of links for each position; missing ones are empty.
+fn links_of(links: &[u64]) -> [u64; limits::POSITIONS]
     ensures { λ r. ⌜ r ≡ linksOf (now (links .entry)) ⌝ }
 {
-    let mut a = [0u64; 64];
+    let mut a = [0u64; limits::POSITIONS];
     let mut i: usize = 0;
-    while i < 64 {
+    while i < limits::POSITIONS {
         a[i] = numbers::number(links, i);
         i += 1;
     }
     a
 }
 
+// What the numbers of a call say of a round. A capture round reads no repeats.
+fn conf_of(
+    links: &[u64],
+    n: usize,
+    abort_probability: f64,
+    seed: u64,
+    listen_timeout: u64,
+    loss_rate: f64,
+    interval: u64,
+    slots: u64,
+) -> RoundConf
+    ensures { λ r. ⌜ r ≡
+        confOf (now (links .entry)) n «abort_probability» seed «listen_timeout» «loss_rate» interval slots ⌝ }
+{
+    let adj = links_of(links);
+    let graph = NetworkGraph { n, adj };
+    let settings = Settings {
+        loss_rate,
+        abort_probability,
+        seed,
+        listen_timeout,
+        flood_repeats: 0,
+        round_slots: slots,
+        slots_given: true,
+    };
+    RoundConf {
+        graph,
+        settings,
+        interval,
+        length: slots,
+    }
+}
+
 fn state_of(xs: &[u64]) -> CeState
     ensures { λ r. ⌜ r ≡ stateAt (now (xs .entry)) ⌝ }
 {
-    let nodes = numbers::nodes_of(xs, 16);
+    let network = numbers::network_of(xs, 2, 8, 16);
     let held = payloads::held_of(xs, 528);
-    let metrics = numbers::metrics_of(xs, 8);
     let draw = Draw {
         at: numbers::number(xs, 4) as usize,
         short: false,
     };
     CeState {
-        nodes,
+        network,
         held,
-        slot: numbers::number(xs, 0),
-        next_row: numbers::number(xs, 1),
-        bytes_sent: numbers::number(xs, 2),
         draw,
-        metrics,
         ended: numbers::is_yes(numbers::number(xs, 5)),
     }
 }
 
-fn counters_of(a: CeAnswer) -> [u64; 6]
+// The numbers from 3 on, behind those of the network.
+fn counters_of(a: CeAnswer) -> [u64; 3]
     ensures { λ r. ⌜ r ≡ counters a ⌝ }
 {
     let c = a.state;
     let draw = c.draw;
-    [
-        c.slot,
-        c.next_row,
-        c.bytes_sent,
-        a.used as u64,
-        draw.at as u64,
-        c.ended as u64,
-    ]
+    [a.used as u64, draw.at as u64, c.ended as u64]
 }
 
 fn put_state(xs: &mut [u64], a: CeAnswer)
     ensures { λ _. ⌜ now (xs .exit) ≡ putState a (now (xs .entry)) ⌝ }
 {
     let c = a.state;
-    let nodes = c.nodes;
+    let network = c.network;
     let held = c.held;
-    let metrics = c.metrics;
     let values = counters_of(a);
-    numbers::put_run(xs, 0, 0, &values);
-    numbers::put_metrics(xs, 8, metrics);
-    numbers::put_nodes(xs, 16, nodes);
+    numbers::put_run(xs, 3, 0, &values);
+    numbers::put_network(xs, 2, 8, 16, network);
     payloads::put_held(xs, 528, held);
 }
 
-// One round of at most `slots` slots. The state: slot, next row slot, bytes sent, rows used, cursor, whether the goal was met; at 8 the counts of the
-// room, at 16 the nodes, at 528 what positions hold.
+// One round of at most `slots` slots. The state: slot, next row slot, bytes sent, rows used, cursor, whether the goal
+// was met; at 8 the counts of the room, at 16 the nodes, at 528 what positions hold.
 #[no_mangle]
 pub extern "C" fn ce_round(
     state: &mut [u64],
@@ -112,38 +129,28 @@ pub extern "C" fn ce_round(
     initiator: usize,
     slots: u64,
 ) -> u64
-    ensures { λ r. ⌜ r ≡ first (askedOf n initiator) (toldOf (now (state .entry)) (now (words .entry)) (now (links .entry)) (length (now (rows .entry))) (confOf n «abort_probability» seed «listen_timeout» «loss_rate» interval slots) initiator slots .refusal) ⌝ }
-    ensures { λ r. ⌜ now (state .exit) ≡ unless r (putState (toldOf (now (state .entry)) (now (words .entry)) (now (links .entry)) (length (now (rows .entry))) (confOf n «abort_probability» seed «listen_timeout» «loss_rate» interval slots) initiator slots) (now (state .entry))) (now (state .entry)) ⌝ }
-    ensures { λ _. ⌜ now (rows .exit) ≡ unless (askedOf n initiator) (rowsLeft (now (state .entry)) (now (words .entry)) (now (links .entry)) (now (rows .entry)) (confOf n «abort_probability» seed «listen_timeout» «loss_rate» interval slots) initiator slots) (now (rows .entry)) ⌝ }
+    ensures { λ r. ⌜ Answered (now (state .entry)) (now (words .entry)) (now (rows .entry))
+        (confOf (now (links .entry)) n «abort_probability» seed «listen_timeout» «loss_rate» interval slots) initiator
+        r (now (state .exit)) (now (rows .exit)) ⌝ }
 {
     let refusal = asked(n, initiator);
     if refusal != 0 {
         return refusal;
     }
-    let voting = Voting {
+    let conf = conf_of(
+        links,
         n,
         abort_probability,
         seed,
-    };
-    let settings = Settings {
-        loss_rate,
-        abort_probability,
-        seed,
         listen_timeout,
-        flood_repeats: 0,
-        round_slots: slots,
-        slots_given: true,
-    };
-    let conf = CeRound {
-        settings,
-        voting,
+        loss_rate,
         interval,
-    };
+        slots,
+    );
     let c = state_of(state);
-    let adj = links_of(links);
     let used = numbers::number(state, 3) as usize;
     let cursor = numbers::number(state, 4) as usize;
-    let a = capture::run_ce_round(words, &adj, rows, used, conf, c, initiator, cursor, slots);
+    let a = capture::capture::run_ce_round(words, rows, used, conf, c, initiator, cursor);
     let refusal2 = a.refusal;
     if refusal2 != 0 {
         return refusal2;

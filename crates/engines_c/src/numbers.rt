@@ -1,11 +1,12 @@
-// State as a lent list of 64-bit numbers, for entries that can be lent numbers and nothing else. A place past the end reads as 0, and nothing is
-// put there, so that no call has to be refused for the length of its list.
+// State as a lent list of 64-bit numbers, for entries that can be lent numbers and nothing else. A place past the end
+// reads as 0, and nothing is put there, so that no call has to be refused for the length of its list.
 ghost use mathlib.Core.Path.{_≡_};
 ghost use Prim.Native.Nat.{_+_, _≤_};
 ghost use lib.ListN.{getD, set};
 ghost use lib.Seq.{sets};
-ghost use Rattle.engines_c.specs.Numbers.{cell, truth, stateNumber, stateNumbered, nodeAt, nodesAt, nodeNumbers, putNodes, metricsAt, metricsNumbers};
+ghost use Rattle.engines_c.specs.Numbers.{cell, truth, stateNumber, stateNumbered, nodeAt, nodesAt, nodeNumbers, putNodes, metricsAt, metricsNumbers, networkAt, putNetwork};
 use engines::metrics::MetricsCollector;
+use engines::network::Network;
 use engines::node::Node;
 use engines::node::NodeState;
 
@@ -133,14 +134,14 @@ fn node_numbers(v: Node) -> [u64; 8]
     ]
 }
 
-// The 64 nodes whose numbers start at a place, each behind the one before it.
-pub fn nodes_of(xs: &[u64], at: usize) -> [Node; 64]
+// The nodes of all positions, whose numbers start at a place, each behind the one before it.
+pub fn nodes_of(xs: &[u64], at: usize) -> [Node; limits::POSITIONS]
     ensures { λ r. ⌜ r ≡ nodesAt (now (xs .entry)) at ⌝ }
 {
     let v = Node::new();
-    let mut a = [v; 64];
+    let mut a = [v; limits::POSITIONS];
     let mut i: usize = 0;
-    while i < 64 {
+    while i < limits::POSITIONS {
         a[i] = node_of(xs, at, i * 8);
         i += 1;
     }
@@ -154,11 +155,11 @@ fn put_node(xs: &mut [u64], at: usize, k: usize, v: Node)
     put_run(xs, at, k, &values);
 }
 
-pub fn put_nodes(xs: &mut [u64], at: usize, nodes: [Node; 64])
+pub fn put_nodes(xs: &mut [u64], at: usize, nodes: [Node; limits::POSITIONS])
     ensures { λ _. ⌜ now (xs .exit) ≡ putNodes at nodes (now (xs .entry)) ⌝ }
 {
     let mut i: usize = 0;
-    while i < 64 {
+    while i < limits::POSITIONS {
         put_node(xs, at, i * 8, nodes[i]);
         i += 1;
     }
@@ -195,4 +196,32 @@ pub fn put_metrics(xs: &mut [u64], at: usize, m: MetricsCollector)
         m.flood_nodes_covered,
     ];
     put_run(xs, at, 0, &values);
+}
+
+// ---- a network: slot and next row slot at 0 and 1, then bytes sent, counts and nodes, each at a place of its own
+
+pub fn network_of(xs: &[u64], sent: usize, counts: usize, at: usize) -> Network
+    ensures { λ r. ⌜ r ≡ networkAt (now (xs .entry)) sent counts at ⌝ }
+{
+    let nodes = nodes_of(xs, at);
+    let metrics = metrics_of(xs, counts);
+    Network {
+        nodes,
+        metrics,
+        slot: number(xs, 0),
+        next_row: number(xs, 1),
+        bytes_sent: number(xs, sent),
+    }
+}
+
+pub fn put_network(xs: &mut [u64], sent: usize, counts: usize, at: usize, w: Network)
+    ensures { λ _. ⌜ now (xs .exit) ≡ putNetwork sent counts at w (now (xs .entry)) ⌝ }
+{
+    let nodes = w.nodes;
+    let metrics = w.metrics;
+    put(xs, 0, w.slot);
+    put(xs, 1, w.next_row);
+    put(xs, sent, w.bytes_sent);
+    put_metrics(xs, counts, metrics);
+    put_nodes(xs, at, nodes);
 }

@@ -1,5 +1,5 @@
-// What 64 positions hold as a lent list of numbers, 38 for each: what it is (0 nothing, 1 a text that is no packet, 2 a packet), the packet's term
-// and phase, the length of its data and of its bitmap, the bitmap's marks, and 32 bytes of data.
+// What positions hold as a lent list of numbers, 38 for each: what it is (0 nothing, 1 a text that is no packet, 2 a
+// packet), the packet's term and phase, the length of its data and of its bitmap, the bitmap's marks, and 32 bytes of data.
 ghost use mathlib.Core.Path.{_≡_};
 ghost use Prim.Native.Nat.{_+_, _≤_};
 ghost use Rattle.packets_c.specs.Console.{phaseNumber, phaseNumbered};
@@ -59,13 +59,13 @@ fn phase_numbered(n: u64) -> TwoPcPhase
 }
 
 // A number above 255 gives its low eight digits.
-fn bytes_of(xs: &[u64], at: usize, k: usize) -> [u8; 32]
+fn bytes_of(xs: &[u64], at: usize, k: usize) -> [u8; limits::DATA]
     requires { ⌜ k ≤ 10000 ⌝ }
     ensures { λ r. ⌜ r ≡ bytesAt (now (xs .entry)) at k ⌝ }
 {
-    let mut a = [0u8; 32];
+    let mut a = [0u8; limits::DATA];
     let mut i: usize = 0;
-    while i < 32 {
+    while i < limits::DATA {
         a[i] = (numbers::number_behind(xs, at, k + i) % 256) as u8;
         i += 1;
     }
@@ -97,14 +97,14 @@ fn payload_of(xs: &[u64], at: usize, k: usize) -> Payload
     Payload { held, packet }
 }
 
-// The 64 payloads whose numbers start at a place, each behind the one before it.
-pub fn held_of(xs: &[u64], at: usize) -> [Payload; 64]
+// What all positions hold, whose numbers start at a place, each behind the one before it.
+pub fn held_of(xs: &[u64], at: usize) -> [Payload; limits::POSITIONS]
     ensures { λ r. ⌜ r ≡ heldAt (now (xs .entry)) at ⌝ }
 {
     let l = payload_of(xs, at, 0);
-    let mut a = [l; 64];
+    let mut a = [l; limits::POSITIONS];
     let mut i: usize = 0;
-    while i < 64 {
+    while i < limits::POSITIONS {
         a[i] = payload_of(xs, at, i * 38);
         i += 1;
     }
@@ -112,12 +112,12 @@ pub fn held_of(xs: &[u64], at: usize) -> [Payload; 64]
 }
 
 // Bytes as numbers of 64 digits.
-fn widened(bytes: [u8; 32]) -> [u64; 32]
+fn widened(bytes: [u8; limits::DATA]) -> [u64; limits::DATA]
     ensures { λ r. ⌜ r ≡ bytes ⌝ }
 {
-    let mut a = [0u64; 32];
+    let mut a = [0u64; limits::DATA];
     let mut i: usize = 0;
-    while i < 32 {
+    while i < limits::DATA {
         a[i] = bytes[i] as u64;
         i += 1;
     }
@@ -155,11 +155,11 @@ fn put_payload(xs: &mut [u64], at: usize, k: usize, l: Payload)
     numbers::put_run(xs, at, k + 6, &rest);
 }
 
-pub fn put_held(xs: &mut [u64], at: usize, held: [Payload; 64])
+pub fn put_held(xs: &mut [u64], at: usize, held: [Payload; limits::POSITIONS])
     ensures { λ _. ⌜ now (xs .exit) ≡ putHeld at held (now (xs .entry)) ⌝ }
 {
     let mut i: usize = 0;
-    while i < 64 {
+    while i < limits::POSITIONS {
         put_payload(xs, at, i * 38, held[i]);
         i += 1;
     }

@@ -7,6 +7,7 @@ use native.Mathlib.Omega.{arith}
 use lib.ListN.{length}
 use lib.Dec.{eqb}
 use borrow.Author.Tests.{lt-ltb, le-ltb, le-leb, lt-leb}
+use Rattle.frame.specs.Bounds.{frameDigits}
 use Rattle.frame.specs.Lines.{numberAt, allHex, nameFits, nameLength, hasName, isKind, isFrame, frameOf, noFrame}
 
 module _ (s : List ℕ) (n : ℕ) (e : n ≡ nameLength s) where
@@ -27,25 +28,25 @@ module _ (s : List ℕ) (n : ℕ) (e : n ≡ nameLength s) where
   name-good h l f = rw (← e, lt-ltb 0 n h, le-leb (76 + 2 * n) (length s) l, f)
 
 module _ (s : List ℕ) where
-  pub frame-long : 60000 < length s → false ≡ isFrame s
+  pub frame-long : frameDigits < length s → false ≡ isFrame s
   unfolding isFrame
-  frame-long h = rw (lt-leb (length s) 60000 h)
+  frame-long h = rw (lt-leb (length s) frameDigits h)
 
-  pub frame-digit : length s ≤ 60000 → allHex s ≡ false → false ≡ isFrame s
+  pub frame-digit : length s ≤ frameDigits → allHex s ≡ false → false ≡ isFrame s
   unfolding isFrame
-  frame-digit h d = rw (le-leb (length s) 60000 h, d)
+  frame-digit h d = rw (le-leb (length s) frameDigits h, d)
 
-  pub frame-short : length s ≤ 60000 → allHex s ≡ true → length s < 78 → false ≡ isFrame s
+  pub frame-short : length s ≤ frameDigits → allHex s ≡ true → length s < 78 → false ≡ isFrame s
   unfolding isFrame
-  frame-short h d l = rw (le-leb (length s) 60000 h, d, lt-leb 78 (length s) l)
+  frame-short h d l = rw (le-leb (length s) frameDigits h, d, lt-leb 78 (length s) l)
 
-  pub frame-kind : (k : ℕ) → length s ≤ 60000 → allHex s ≡ true → 78 ≤ length s → k ≡ numberAt s 0 2 → isKind k ≡ false → false ≡ isFrame s
+  pub frame-kind : (k : ℕ) → length s ≤ frameDigits → allHex s ≡ true → 78 ≤ length s → k ≡ numberAt s 0 2 → isKind k ≡ false → false ≡ isFrame s
   unfolding isFrame
-  frame-kind k h d l e f = rw (le-leb (length s) 60000 h, d, le-leb 78 (length s) l, ← e, f)
+  frame-kind k h d l e f = rw (le-leb (length s) frameDigits h, d, le-leb 78 (length s) l, ← e, f)
 
-  pub frame-good : (k : ℕ) (r : Bool) → length s ≤ 60000 → allHex s ≡ true → 78 ≤ length s → k ≡ numberAt s 0 2 → isKind k ≡ true → r ≡ hasName s → r ≡ isFrame s
+  pub frame-good : (k : ℕ) (r : Bool) → length s ≤ frameDigits → allHex s ≡ true → 78 ≤ length s → k ≡ numberAt s 0 2 → isKind k ≡ true → r ≡ hasName s → r ≡ isFrame s
   unfolding isFrame
-  frame-good k r h d l e f g = rw (le-leb (length s) 60000 h, d, le-leb 78 (length s) l, ← e, f) g
+  frame-good k r h d l e f g = rw (le-leb (length s) frameDigits h, d, le-leb 78 (length s) l, ← e, f) g
 
   pub frame-refused : isFrame s ≡ false → noFrame ≡ frameOf s
   unfolding frameOf

@@ -1,19 +1,18 @@
 -- A pipeline frame's rounds run until the room has stopped or one is refused: each accepted round leaves one fewer of T + 1002. Assumes nothing.
 use mathlib.Core.Bool.{Bool, true, false, not, _||_}
 use mathlib.Core.List.{List}
-use mathlib.Core.Path.{_≡_, refl}
-use Prim.Native.Nat.{ℕ, zero, suc, _+_}
+use mathlib.Core.Path.{_≡_, refl, subst}
+use Prim.Native.Nat.{ℕ, zero, suc, _+_, _≤_}
 use native.Mathlib.Omega.{arith}
 use lib.Dec.{eqb}
-use borrow.Author.Tests.{eq-eqb}
 use Rattle.loops.specs.Runs.{go, runs}
-use Rattle.pipeline.proofs.Ending.{accepted}
-use Rattle.room.proofs.Spending.{Within, within-going, pipeline-within, opened-within}
-use Rattle.room.specs.declared.room.Room.{Room}
-use Rattle.room.specs.declared.room.Round.{Round}
-use Rattle.room.specs.Rooms.{pipelineOf}
-use Rattle.frame.specs.declared.line.Frame.{Frame}
-use Rattle.frame.specs.Play.{kindOf, settingsOf, openingOf, pipelineTurn, isDone, startWith, playOf}
+use Rattle.limits.specs.Limits.{rowCells}
+use Rattle.pipeline.specs.Round.{newPart}
+use Rattle.pipeline.specs.declared.pipeline.PipelineAnswer.{PipelineAnswer}
+use Rattle.pipeline.proofs.Ending.{Spent, accepted}
+use Rattle.room.specs.declared.room.RoomConf.{RoomConf}
+use Rattle.room.proofs.Spending.{part-spent, spent-going}
+use Rattle.frame.specs.Play.{pipelineTurn, isDone, newRan, playPipeline}
 use Rattle.frame.specs.Stopping.{RunsUntilStopped}
 
 -- ---- a loop has stopped at its end if what its steps keep says so once none is left
@@ -29,9 +28,9 @@ module _ {S : Type 0} (stop : S → Bool) (step : S → S) (Q : ℕ → S → Ty
 
 -- ---- what is not done goes on
 
-not-done : (s : Round) → isDone s ≡ false → (eqb (s .refusal) 0 ≡ true) × (s .room .rounds .stop ≡ false)
+not-done : (s : PipelineAnswer) → isDone s ≡ false → (eqb (s .refusal) 0 ≡ true) × (s .part .stop ≡ false)
 unfolding isDone
-not-done s e = by (eqb (s .refusal) 0) (s .room .rounds .stop) e
+not-done s e = by (eqb (s .refusal) 0) (s .part .stop) e
   where
     by : (a b : Bool) → (not a || b) ≡ false → (a ≡ true) × (b ≡ false)
     by true b h = (refl, h)
@@ -39,47 +38,42 @@ not-done s e = by (eqb (s .refusal) 0) (s .room .rounds .stop) e
 
 -- ---- the rounds of a room of t transactions: those that were accepted, and those that are left
 
-record Going (t left : ℕ) (s : Round) : Type 0 where
+record Going (t left : ℕ) (s : PipelineAnswer) : Type 0 where
   count : ℕ
-  within : Within t count (s .room)
+  spent : Spent t count (s .part .stop) (s .part .round)
   all : count + left ≡ t + 1002
 
-abbrev Left : ℕ → ℕ → Round → Type 0
+abbrev Left : ℕ → ℕ → PipelineAnswer → Type 0
 Left t left s = isDone s ≡ false → Going t left s
 
 one : (m : ℕ) → eqb m 0 ≡ true → accepted m ≡ 1
 one m e = rw e
 
-turn-left : (t : ℕ) (ws : List ℕ) (k : ℕ) (s : Round) → isDone s ≡ false → Left t (suc k) s → Left t k (pipelineTurn ws s)
-unfolding pipelineTurn
-turn-left t ws k s e q d =
-    let g = q e in
-    let a = pipelineOf ws 5 (s .used) (s .room) (s .cursor) in
-    let h : accepted (a .refusal) ≡ 1 = one (a .refusal) (not-done a d .0) in
-    record {
-      count = g .count + accepted (a .refusal);
-      within = pipeline-within t (g .count) (s .room) (g .within) ws 5 (s .used) (s .cursor);
-      all = omega (arith, h, g .all);
-    }
+module _ (conf : RoomConf) (ws : List ℕ) (bounded : conf .transactions ≤ 64) where
+  abbrev t : ℕ
+  t = conf .transactions
 
-none-left : (t : ℕ) (s : Round) → Left t 0 s → isDone s ≡ true
-none-left t s q = by (isDone s) refl
-  where
-    by : (b : Bool) → isDone s ≡ b → b ≡ true
-    by true e = refl
-    by false e = absurd (let g = q e in omega (arith, g .all, within-going (not-done s e .1) (g .within)))
+  turn-spent : (k : ℕ) (s : PipelineAnswer) → Spent t k (s .part .stop) (s .part .round)
+      → Spent t (k + accepted (pipelineTurn ws conf s .refusal)) (pipelineTurn ws conf s .part .stop) (pipelineTurn ws conf s .part .round)
+  unfolding pipelineTurn
+  turn-spent k s w = part-spent ws rowCells (s .used) conf (s .network) (s .part) (s .cursor) k bounded w
 
--- in every room that has accepted none yet
-play-ends : (f : Frame) (ws : List ℕ) (r : Room) → f .kind ≡ 1 → Within (f .transactions) 0 r → isDone (playOf f ws r) ≡ true
-unfolding playOf
-play-ends f ws r e w =
-    rw (eq-eqb (f .kind) 1 e)
-    (runs-ends isDone (pipelineTurn ws) (Left t) (turn-left t ws) (none-left t) (t + 1002) (startWith r) (λ d. record { count = 0; within = w; all = omega arith }))
-  where
-    t : ℕ
-    t = f .transactions
+  turn-left : (k : ℕ) (s : PipelineAnswer) → isDone s ≡ false → Left t (suc k) s → Left t k (pipelineTurn ws conf s)
+  turn-left k s e q d =
+      let g = q e in
+      let a = pipelineTurn ws conf s in
+      let h : accepted (a .refusal) ≡ 1 = one (a .refusal) (not-done a d .0) in
+      record { count = g .count + accepted (a .refusal); spent = turn-spent (g .count) s (g .spent); all = omega (arith, h, g .all) }
+
+  none-left : (s : PipelineAnswer) → Left t 0 s → isDone s ≡ true
+  none-left s q = by (isDone s) refl
+    where
+      by : (b : Bool) → isDone s ≡ b → b ≡ true
+      by true e = refl
+      by false e = absurd (let g = q e in omega (arith, g .all, spent-going t (g .count) (s .part .round) (subst (λ (b : Bool). Spent t (g .count) b (s .part .round)) (not-done s e .1) (g .spent))))
 
 pub runs-until-stopped : RunsUntilStopped
-unfolding openingOf
-runs-until-stopped f links ws e =
-    play-ends f ws (openingOf f links .room) e (opened-within (kindOf (f .kind)) links (settingsOf f) (f .transactions) 0 0xFFFF_FFFF 0xFFFF_FFFF)
+unfolding playPipeline newPart
+runs-until-stopped conf ws h =
+    runs-ends isDone (pipelineTurn ws conf) (Left (conf .transactions)) (turn-left conf ws h) (none-left conf ws h) (conf .transactions + 1002) newRan
+    (λ d. record { count = 0; spent = (refl, omega arith); all = omega arith })

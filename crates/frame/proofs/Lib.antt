@@ -4,3 +4,4 @@ pub mod Floats
 pub mod Playing
 pub mod Texts
 pub mod Lasting
+pub mod Called

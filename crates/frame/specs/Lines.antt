@@ -4,9 +4,11 @@ use mathlib.Core.List.{List}
 use Prim.Native.Nat.{ℕ, zero, suc, _+_, _-_, _*_, _/_, _%_}
 use lib.ListN.{length, getD}
 use lib.Dec.{eqb, ltb, leb}
+use Rattle.limits.specs.Refusals.{badLine}
 use Rattle.loops.specs.Pick.{either}
 use Rattle.loops.specs.Table.{tabulate}
 use Rattle.marks.specs.Marks.{allOf}
+use Rattle.frame.specs.Bounds.{frameDigits}
 use Rattle.frame.specs.declared.line.Frame.{Frame}
 
 -- Digits are 0 to 9 and A to F.
@@ -47,10 +49,10 @@ hasName s =
 unfoldable pub isKind : ℕ → Bool
 isKind k = eqb k 1 || eqb k 2
 
--- A frame: at most 60000 digits, and nothing else; room for the fixed fields and one byte of a name; a kind.
+-- A frame: digits, not too many, and nothing else; room for the fixed fields and one byte of a name; a kind.
 unfoldable pub isFrame : List ℕ → Bool
 isFrame s =
-    leb (length s) 60000
+    leb (length s) frameDigits
     && (allHex s
     && (leb 78 (length s)
     && (isKind (numberAt s 0 2) && hasName s)))
@@ -63,7 +65,7 @@ unfoldable pub wordsOf : List ℕ → List ℕ
 wordsOf s = tabulate (wordCount s) (λ k. numberAt s (76 + 2 * nameLength s + 16 * k) 16)
 
 abbrev pub noFrame : Frame
-noFrame = record { refusal = 1; kind = 0; positions = 0; topology = 0; argument = 0; transactions = 0; span = 0; slots = 0; loss = 0; abort = 0; seed = 0; name = 0; words = 0 }
+noFrame = record { refusal = badLine; kind = 0; positions = 0; topology = 0; argument = 0; transactions = 0; span = 0; slots = 0; loss = 0; abort = 0; seed = 0; name = 0; words = 0 }
 
 -- The fields in their order: kind, positions, topology, argument, transactions, a byte each; repeats or listen timeout, and round
 -- slots, 4 bytes each; loss, abort probability and seed, 8 bytes each; then the name's length.

@@ -1,13 +1,16 @@
 -- Document 01, "After the rounds": the listing line of a frame line, without its line end. Assumes nothing: these are definitions.
+use mathlib.Core.Bool.{Bool, _&&_}
 use mathlib.Core.List.{List, [], _∷_, _++_}
 use Prim.Native.Nat.{ℕ, _+_, _*_}
-use lib.Dec.{eqb, ltb}
+use lib.Dec.{eqb, leb}
 use lib.ListN.{length}
+use Rattle.limits.specs.Refusals.{noFit}
 use Rattle.loops.specs.Pick.{either}
 use Rattle.loops.specs.Table.{tabulate}
 use Rattle.texts.specs.Decimal.{decimal}
 use Rattle.texts.specs.Put.{written}
-use Rattle.frame.specs.Lines.{numberAt, nameLength, wordsOf, frameOf}
+use Rattle.frame.specs.Bounds.{frameWords, listingBytes}
+use Rattle.frame.specs.Lines.{isFrame, numberAt, nameLength, wordsOf, frameOf}
 use Rattle.frame.specs.Play.{refusedBy, playedOf}
 use Rattle.frame.specs.declared.play.Outcome.{Outcome}
 use Rattle.frame.specs.declared.listing.Listed.{Listed}
@@ -37,10 +40,21 @@ textOf s o = either (eqb (o .refusal) 0) (sentText s (o .sent)) (refusedText (o 
 unfoldable pub listingOf : List ℕ → List ℕ
 listingOf s = textOf s (outcomeOf s)
 
--- What a listing call hands back, and what it leaves in the buffer: 10 and the buffer as it was, if that has not the 276 bytes that the longest
--- line takes (a name of 255, a blank and 20 digits).
-unfoldable pub listedOf : List ℕ → ℕ → Listed
-listedOf s room = either (ltb room 276) (record { refusal = 10; len = 0 }) (record { refusal = 0; len = length (listingOf s) })
+-- whether lists of so many words and so many bytes have room for any frame and any listing line
+abbrev pub hasRoom : ℕ → ℕ → Bool
+hasRoom words out = leb frameWords words && leb listingBytes out
 
-unfoldable pub listedIn : List ℕ → List ℕ → List ℕ
-listedIn s out = either (ltb (length out) 276) out (written out 0 (listingOf s))
+-- What a listing call hands back, and what it leaves in the words and the bytes that it is lent: 10 and both as they
+-- were, if either is too short. A frame's words are left at the front of the lent ones, and those behind them stay; a
+-- line that is no frame leaves all as they were.
+unfoldable pub listedOf : List ℕ → ℕ → ℕ → Listed
+listedOf s words out = either (hasRoom words out) (record { refusal = 0; len = length (listingOf s) }) (record { refusal = noFit; len = 0 })
+
+unfoldable pub wordsIn : List ℕ → List ℕ → List ℕ
+wordsIn s words = either (isFrame s) (written words 0 (wordsOf s)) words
+
+unfoldable pub wordsAfter : List ℕ → List ℕ → ℕ → List ℕ
+wordsAfter s words out = either (hasRoom (length words) out) (wordsIn s words) words
+
+unfoldable pub listedIn : List ℕ → ℕ → List ℕ → List ℕ
+listedIn s words out = either (hasRoom words (length out)) (written out 0 (listingOf s)) out

@@ -2,11 +2,11 @@
 use mathlib.Core.Bool.{true}
 use mathlib.Core.List.{List}
 use mathlib.Core.Path.{_≡_}
-use Prim.Native.Nat.{ℕ}
-use Rattle.frame.specs.declared.line.Frame.{Frame}
-use Rattle.frame.specs.Play.{openingOf, isDone, playOf}
+use Prim.Native.Nat.{ℕ, _≤_}
+use Rattle.room.specs.declared.room.RoomConf.{RoomConf}
+use Rattle.frame.specs.Play.{isDone, playPipeline}
 
--- The number of turns in `playOf` cuts no pipeline room short: after them the room has stopped, or a round was refused. Whatever the links and the words,
--- and also in the room that stands beside a refused opening.
+-- The number of turns in `playPipeline` cuts no pipeline room of t transactions short: after them the room has stopped, or a round was refused. Whatever
+-- the room is and whatever the words are.
 abbrev pub RunsUntilStopped : Type 0
-RunsUntilStopped = (f : Frame) (links ws : List ℕ) → f .kind ≡ 1 → isDone (playOf f ws (openingOf f links .room)) ≡ true
+RunsUntilStopped = (conf : RoomConf) (ws : List ℕ) → conf .transactions ≤ 64 → isDone (playPipeline (conf .transactions) ws conf) ≡ true

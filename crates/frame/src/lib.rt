@@ -1,4 +1,5 @@
 // A frame line in, its listing line out.
+pub mod bounds;
 pub mod line;
 pub mod listing;
 pub mod play;

@@ -1,8 +1,11 @@
 // A frame line's digits and fields: what refusal 1 is about.
+ghost use mathlib.Core.Bool.{true};
 ghost use mathlib.Core.Path.{_≡_};
-ghost use Prim.Native.Nat.{_^_, _<_, _≤_};
-ghost use lib.ListN.{getD};
+ghost use Prim.Native.Nat.{_+_, _^_, _<_, _≤_};
+ghost use lib.ListN.{length, getD};
 ghost use Rattle.frame.specs.Lines.{isHex, digitOf, numberAt, allHex, nameByte, nameFits, hasName, isKind, nameLength, isFrame, wordCount, frameOf};
+use crate::bounds::DIGITS;
+use limits::refusals;
 
 // The fields of a frame line, as numbers; all 0 if the line is refused.
 pub struct Frame {
@@ -65,17 +68,40 @@ pub(crate) fn number_at(s: &[u8], i: usize, c: usize) -> u64
     v
 }
 
+// All bytes are looked at, also behind a bad one: a loop without a branch takes many at once.
 fn all_hex(s: &[u8]) -> bool
     ensures { λ r. ⌜ r ≡ allHex (now (s .entry)) ⌝ }
 {
+    let mut good = true;
     let mut i: usize = 0;
     while i < s.len() {
-        if !is_hex(s[i]) {
-            return false;
-        }
+        good = good & is_hex(s[i]);
         i += 1;
     }
-    true
+    good
+}
+
+// The value of a byte that is a digit. There are many to read, so this has no branch: the low four bits of 0 to 9 are
+// their value, those of A to F nine less.
+fn value(b: u8) -> u64
+    requires { ⌜ isHex b ≡ true ⌝ }
+    ensures { λ r. ⌜ r ≡ digitOf b ⌝ }
+{
+    (b % 16 + b / 64 * 9) as u64
+}
+
+// The word whose 16 digits begin at place i.
+pub(crate) fn word_at(s: &[u8], i: usize) -> u64
+    requires { ⌜ (i + 16 ≤ length (now s)) × (allHex (now s) ≡ true) ⌝ }
+    ensures { λ r. ⌜ r ≡ numberAt (now (s .entry)) i 16 ⌝ }
+{
+    let mut v: u64 = 0;
+    let mut k: usize = 0;
+    while k < 16 {
+        v = v * 16 + value(s[i + k]);
+        k += 1;
+    }
+    v
 }
 
 fn is_name_byte(s: &[u8], k: usize) -> bool
@@ -118,7 +144,7 @@ fn is_frame(s: &[u8]) -> bool
     ensures { λ r. ⌜ r ≡ isFrame (now (s .entry)) ⌝ }
 {
     let digits = s.len();
-    if digits > 60000 {
+    if digits > DIGITS {
         return false;
     }
     if !all_hex(s) {
@@ -162,7 +188,7 @@ pub fn read_frame(s: &[u8]) -> Frame
 {
     if !is_frame(s) {
         return Frame {
-            refusal: 1,
+            refusal: refusals::BAD_LINE,
             kind: 0,
             positions: 0,
             topology: 0,

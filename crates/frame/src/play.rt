@@ -1,18 +1,25 @@
 // The room that a frame asks for, and the calls that it makes.
 ghost use mathlib.Core.Path.{_≡_};
-ghost use Prim.Native.Nat.{_<_, _≤_, _^_};
-ghost use lib.ListN.{length};
+ghost use Prim.Native.Nat.{_<_, _^_};
 ghost use lib.Ieee.{binary64, ofBits, nanBits};
-ghost use Rattle.loops.specs.Runs.{runs};
-ghost use Rattle.loops.specs.Upto.{upto};
-ghost use Rattle.frame.specs.Play.{kindOf, settingsOf, openingOf, unlessRefused, proposing, capturing, captureTurn, pipelineTurn, isDone, startWith, playOf, refusedBy, endOf, playedIn, playedOf};
+ghost use Rattle.room.specs.Kinds.{positionsOf};
+ghost use Rattle.frame.specs.Play.{kindOf, settingsOf, askedOf, unlessRefused, proposing, capturing, captureTurn, newCaptured, playCapture, pipelineTurn, isDone, newRan, playPipeline, refusedBy, endOf, playOf, playedIn, playedOf};
 use crate::line::Frame;
+use engines::network::Network;
 use engines::settings::Settings;
 use graph::network::NetworkGraph;
-use room::room::Opening;
+use limits::refusals;
+use pipeline::pipeline::PipelineAnswer;
+use pipeline::pipeline::PipelinePart;
+use room::capture_calls;
+use room::capture_calls::CapturePart;
+use room::capture_calls::Captured;
+use room::pipeline_calls;
+use room::room as rooms;
+use room::room::Asked;
 use room::room::Room;
+use room::room::RoomConf;
 use room::room::RoomKind;
-use room::room::Round;
 
 // The number of the first refusal; if there is none 0, and the bytes sent.
 pub struct Outcome {
@@ -66,130 +73,133 @@ fn settings_of(f: Frame) -> Settings
     }
 }
 
-fn open_room(f: Frame, links: &[u64]) -> Opening
+fn asked_of(f: Frame, graph: NetworkGraph) -> Asked
     requires { ⌜ f .span < 2 ^ 32 ⌝ }
-    ensures { λ r. ⌜ r ≡ openingOf f (now (links .entry)) ⌝ }
+    ensures { λ r. ⌜ r ≡ askedOf f graph ⌝ }
 {
     let kind = kind_of(f.kind);
-    let s = settings_of(f);
-    Room::open(
+    let settings = settings_of(f);
+    Asked {
         kind,
-        links,
-        s,
-        f.transactions as usize,
-        0,
-        Room::LAST_SLOT,
-        Room::LAST_SLOT,
-    )
+        graph,
+        settings,
+        transactions: f.transactions as usize,
+        term: 0,
+        interval: Room::LAST_SLOT,
+        bound: Room::LAST_SLOT,
+    }
 }
 
-// ---- its calls
+// ---- the calls of a capture room. They move its network and its own part: a frame needs nothing else of a room.
 
-fn propose_next(v: usize, s: Round) -> Round
-    ensures { λ r. ⌜ r ≡ unlessRefused (proposing v) s ⌝ }
+fn propose_next(conf: RoomConf, v: usize, s: Captured) -> Captured
+    ensures { λ r. ⌜ r ≡ unlessRefused (proposing conf v) s ⌝ }
 {
     if s.refusal != 0 {
         return s;
     }
-    let before = s.room;
-    let p = before.propose(v);
-    let room = p.room;
-    Round {
-        refusal: p.refusal,
-        cursor: s.cursor,
-        used: s.used,
-        room,
-    }
+    let before = s.part;
+    let p = capture_calls::propose(conf, before, v);
+    let part = p.part;
+    let mut q = s;
+    q.refusal = p.refusal;
+    q.part = part;
+    q
 }
 
 // The row that a round writes is not read.
-fn capture_next(words: &[u64], s: Round) -> Round
-    ensures { λ r. ⌜ r ≡ unlessRefused (capturing (now (words .entry))) s ⌝ }
+fn capture_next(words: &[u64], conf: RoomConf, s: Captured) -> Captured
+    ensures { λ r. ⌜ r ≡ unlessRefused (capturing (now (words .entry)) conf) s ⌝ }
 {
     if s.refusal != 0 {
         return s;
     }
-    let room = s.room;
+    let w = s.network;
+    let part = s.part;
     let mut row = [0u64; 5];
-    room.capture_round(words, s.cursor, &mut row, s.used)
+    capture_calls::capture_round(words, s.cursor, &mut row, s.used, conf, w, part)
 }
 
-fn capture_turn(words: &[u64], n: usize, k: usize, s: Round) -> Round
-    requires { ⌜ 0 < n ⌝ }
-    ensures { λ r. ⌜ r ≡ captureTurn (now (words .entry)) n k s ⌝ }
+fn capture_turn(words: &[u64], conf: RoomConf, k: usize, s: Captured) -> Captured
+    requires { ⌜ 0 < positionsOf conf ⌝ }
+    ensures { λ r. ⌜ r ≡ captureTurn (now (words .entry)) conf k s ⌝ }
 {
-    let p = propose_next(k % n, s);
-    capture_next(words, p)
+    let p = propose_next(conf, k % conf.round.graph.n, s);
+    capture_next(words, conf, p)
 }
 
-fn run_captures(words: &[u64], n: usize, t: usize, start: Round) -> Round
-    requires { ⌜ 0 < n ⌝ }
-    ensures { λ r. ⌜ r ≡ upto t (captureTurn (now (words .entry)) n) start ⌝ }
+fn new_captured() -> Captured
+    ensures { λ r. ⌜ r ≡ newCaptured ⌝ }
 {
-    let mut s = start;
+    Captured {
+        refusal: 0,
+        cursor: 0,
+        used: 0,
+        network: Network::new(),
+        part: CapturePart::new(0),
+    }
+}
+
+fn play_capture(words: &[u64], conf: RoomConf, t: usize) -> Captured
+    requires { ⌜ 0 < positionsOf conf ⌝ }
+    ensures { λ r. ⌜ r ≡ playCapture t (now (words .entry)) conf ⌝ }
+{
+    let mut s = new_captured();
     let mut k: usize = 0;
     while k < t {
-        s = capture_turn(words, n, k, s);
+        s = capture_turn(words, conf, k, s);
         k += 1;
     }
     s
 }
 
-fn pipeline_turn(words: &[u64], s: Round) -> Round
-    ensures { λ r. ⌜ r ≡ pipelineTurn (now (words .entry)) s ⌝ }
+// ---- the rounds of a pipeline room
+
+fn pipeline_turn(words: &[u64], conf: RoomConf, s: PipelineAnswer) -> PipelineAnswer
+    ensures { λ r. ⌜ r ≡ pipelineTurn (now (words .entry)) conf s ⌝ }
 {
-    let room = s.room;
+    let w = s.network;
+    let part = s.part;
     let mut row = [0u64; 5];
-    room.pipeline_round(words, s.cursor, &mut row, s.used)
+    pipeline_calls::pipeline_round(words, s.cursor, &mut row, s.used, conf, w, part)
 }
 
-fn is_done(s: Round) -> bool
+fn is_done(s: PipelineAnswer) -> bool
     ensures { λ r. ⌜ r ≡ isDone s ⌝ }
 {
     if s.refusal != 0 {
         return true;
     }
-    let room = s.room;
-    let rounds = room.rounds;
-    rounds.stop
+    let part = s.part;
+    part.stop
 }
 
-fn run_pipeline(words: &[u64], limit: usize, start: Round) -> Round
-    ensures { λ r. ⌜ r ≡ runs isDone (pipelineTurn (now (words .entry))) limit start ⌝ }
+fn new_ran() -> PipelineAnswer
+    ensures { λ r. ⌜ r ≡ newRan ⌝ }
 {
-    let mut s = start;
-    let mut left = limit;
+    PipelineAnswer {
+        refusal: 0,
+        cursor: 0,
+        used: 0,
+        network: Network::new(),
+        part: PipelinePart::new(),
+    }
+}
+
+fn play_pipeline(words: &[u64], conf: RoomConf, t: usize) -> PipelineAnswer
+    requires { ⌜ t < 256 ⌝ }
+    ensures { λ r. ⌜ r ≡ playPipeline t (now (words .entry)) conf ⌝ }
+{
+    let mut s = new_ran();
+    let mut left = t + 1002;
     while 0 < left {
         if is_done(s) {
             return s;
         }
-        s = pipeline_turn(words, s);
+        s = pipeline_turn(words, conf, s);
         left -= 1;
     }
     s
-}
-
-fn start_with(room: Room) -> Round
-    ensures { λ r. ⌜ r ≡ startWith room ⌝ }
-{
-    Round {
-        refusal: 0,
-        cursor: 0,
-        used: 0,
-        room,
-    }
-}
-
-fn play(f: Frame, words: &[u64], room: Room) -> Round
-    requires { ⌜ (0 < f .positions) × (f .transactions < 256) ⌝ }
-    ensures { λ r. ⌜ r ≡ playOf f (now (words .entry)) room ⌝ }
-{
-    let start = start_with(room);
-    let t = f.transactions as usize;
-    if f.kind == 1 {
-        return run_pipeline(words, t + 1002, start);
-    }
-    run_captures(words, f.positions as usize, t, start)
 }
 
 // ---- what comes of them
@@ -200,30 +210,39 @@ fn refused_by(refusal: u64) -> Outcome
     Outcome { refusal, sent: 0 }
 }
 
-fn end_of(s: Round) -> Outcome
-    ensures { λ r. ⌜ r ≡ endOf s ⌝ }
+fn end_of(refusal: u64, sent: u64) -> Outcome
+    ensures { λ r. ⌜ r ≡ endOf refusal sent ⌝ }
 {
-    if s.refusal != 0 {
-        return refused_by(s.refusal);
+    if refusal != 0 {
+        return refused_by(refusal);
     }
-    let room = s.room;
-    Outcome {
-        refusal: 0,
-        sent: room.bytes_sent,
-    }
+    Outcome { refusal: 0, sent }
 }
 
-fn play_in(f: Frame, words: &[u64], links: &[u64]) -> Outcome
-    requires { ⌜ (0 < f .positions) × (f .transactions < 256) × (f .span < 2 ^ 32) ⌝ }
-    ensures { λ r. ⌜ r ≡ playedIn f (now (words .entry)) (now (links .entry)) ⌝ }
+fn play(f: Frame, words: &[u64], conf: RoomConf) -> Outcome
+    requires { ⌜ (0 < positionsOf conf) × (f .transactions < 256) ⌝ }
+    ensures { λ r. ⌜ r ≡ playOf f (now (words .entry)) conf ⌝ }
 {
-    let o = open_room(f, links);
-    if o.refusal != 0 {
-        return refused_by(o.refusal);
+    let t = f.transactions as usize;
+    if f.kind == 1 {
+        let p = play_pipeline(words, conf, t);
+        return end_of(p.refusal, p.network.bytes_sent);
     }
-    let room = o.room;
-    let s = play(f, words, room);
-    end_of(s)
+    let s = play_capture(words, conf, t);
+    end_of(s.refusal, s.network.bytes_sent)
+}
+
+fn play_in(f: Frame, words: &[u64], graph: NetworkGraph) -> Outcome
+    requires { ⌜ (f .transactions < 256) × (f .span < 2 ^ 32) ⌝ }
+    ensures { λ r. ⌜ r ≡ playedIn f (now (words .entry)) graph ⌝ }
+{
+    let asked = asked_of(f, graph);
+    let refusal = rooms::open_refusal(asked);
+    if refusal != 0 {
+        return refused_by(refusal);
+    }
+    let conf = rooms::conf_of(asked);
+    play(f, words, conf)
 }
 
 // Refusals 2 and 3, and then the room.
@@ -232,10 +251,10 @@ pub(crate) fn play_frame(f: Frame, words: &[u64]) -> Outcome
     ensures { λ r. ⌜ r ≡ playedOf f (now (words .entry)) ⌝ }
 {
     if f.positions < 2 {
-        return refused_by(2);
+        return refused_by(refusals::BAD_POSITIONS);
     }
-    if f.positions > 64 {
-        return refused_by(2);
+    if f.positions > Room::POSITIONS as u64 {
+        return refused_by(refusals::BAD_POSITIONS);
     }
     let n = f.positions as usize;
     let b = NetworkGraph::from_topology(f.topology, n, f.argument as usize);
@@ -243,6 +262,5 @@ pub(crate) fn play_frame(f: Frame, words: &[u64]) -> Outcome
         return refused_by(b.refusal);
     }
     let g = b.graph;
-    let links = g.adj;
-    play_in(f, words, &links[0..n])
+    play_in(f, words, g)
 }

@@ -6,11 +6,13 @@ use Prim.Native.Nat.{ℕ, _/_, _%_, _≤_, _<_}
 use native.Mathlib.Omega.{arith}
 use lib.ListN.{length, getD, replicate}
 use borrow.Author.Tests.{eq-eqb, ne-eqb, lt-ltb, le-ltb, le-leb, lt-leb}
+use Rattle.limits.specs.Refusals.{badPositions, badLinks}
 use Rattle.loops.specs.Table.{filled}
 use Rattle.marks.specs.Marks.{has, allOf}
 use Rattle.graph.specs.declared.network.NetworkGraph.{NetworkGraph}
 use Rattle.graph.specs.declared.network.Topology.the-variants.{FullMesh, Line, Ring, Grid, Tree}
-use Rattle.graph.specs.Links.{accepted, refused, isSize, builtOf, linkOf, gridOf, plainOf, topologyOf, inside, rowsOf, positionRefusal, rowOf, listOf, neighborsOf, linked, testOf}
+use Rattle.loops.specs.Pick.{either}
+use Rattle.graph.specs.Links.{accepted, refused, isSize, builtOf, linkOf, gridOf, plainOf, topologyOf, inside, rowsOf, graphRefusal, positionRefusal, rowOf, listOf, neighborsOf, linked, testOf}
 use Rattle.graph.specs.Paths.{diameterOf, lengthOf}
 
 -- 1 to 64 positions
@@ -24,15 +26,15 @@ pub size-ok : (n : ℕ) → 0 < n → n ≤ 64 → isSize n ≡ true
 size-ok n h l = rw (lt-ltb 0 n h, le-leb n 64 l)
 
 -- a grid
-pub grid-size : (n rows : ℕ) → isSize n ≡ false → refused 2 ≡ gridOf n rows
+pub grid-size : (n rows : ℕ) → isSize n ≡ false → refused badPositions ≡ gridOf n rows
 unfolding gridOf
 grid-size n rows e = rw e
 
-pub grid-zero : (n rows : ℕ) → isSize n ≡ true → rows ≡ 0 → refused 3 ≡ gridOf n rows
+pub grid-zero : (n rows : ℕ) → isSize n ≡ true → rows ≡ 0 → refused badLinks ≡ gridOf n rows
 unfolding gridOf
 grid-zero n rows e z = rw (e, eq-eqb rows 0 z)
 
-pub grid-uneven : (n rows : ℕ) → isSize n ≡ true → (rows ≡ 0 → ⊥) → (n % rows ≡ 0 → ⊥) → refused 3 ≡ gridOf n rows
+pub grid-uneven : (n rows : ℕ) → isSize n ≡ true → (rows ≡ 0 → ⊥) → (n % rows ≡ 0 → ⊥) → refused badLinks ≡ gridOf n rows
 unfolding gridOf
 grid-uneven n rows e z u = rw (e, ne-eqb rows 0 z, ne-eqb (n % rows) 0 u)
 
@@ -41,7 +43,7 @@ unfolding gridOf
 grid-even n rows e z u = rw (e, ne-eqb rows 0 z, eq-eqb (n % rows) 0 u)
 
 -- a topology by its number
-pub topology-size : (t n a : ℕ) → isSize n ≡ false → refused 2 ≡ topologyOf t n a
+pub topology-size : (t n a : ℕ) → isSize n ≡ false → refused badPositions ≡ topologyOf t n a
 unfolding topologyOf
 topology-size t n a e = rw e
 
@@ -66,23 +68,33 @@ module _ (t n a : ℕ) (size : isSize n ≡ true) where
   unfolding topologyOf
   topology-5 e = rw (size, e)
 
-  pub topology-other : (t ≡ 1 → ⊥) → (t ≡ 2 → ⊥) → (t ≡ 3 → ⊥) → (t ≡ 4 → ⊥) → (t ≡ 5 → ⊥) → refused 3 ≡ topologyOf t n a
+  pub topology-other : (t ≡ 1 → ⊥) → (t ≡ 2 → ⊥) → (t ≡ 3 → ⊥) → (t ≡ 4 → ⊥) → (t ≡ 5 → ⊥) → refused badLinks ≡ topologyOf t n a
   unfolding topologyOf
   topology-other p q r s u = rw (size, ne-eqb t 1 p, ne-eqb t 2 q, ne-eqb t 3 r, ne-eqb t 4 s, ne-eqb t 5 u)
 
 -- rows
 module _ (rows : List ℕ) where
-  pub rows-size : isSize (length rows) ≡ false → refused 2 ≡ rowsOf rows
+  pub rows-size : isSize (length rows) ≡ false → refused badPositions ≡ rowsOf rows
   unfolding rowsOf
   rows-size e = rw e
 
-  pub rows-stray : isSize (length rows) ≡ true → allOf (length rows) (λ i. inside (length rows) (getD rows i 0)) ≡ false → refused 3 ≡ rowsOf rows
+  pub rows-stray : isSize (length rows) ≡ true → allOf (length rows) (λ i. inside (length rows) (getD rows i 0)) ≡ false → refused badLinks ≡ rowsOf rows
   unfolding rowsOf
   rows-stray e f = rw (e, f)
 
   pub rows-taken : (g : NetworkGraph) → isSize (length rows) ≡ true → allOf (length rows) (λ i. inside (length rows) (getD rows i 0)) ≡ true → g ≡ record { n = length rows; adj = filled 0 64 (length rows) (λ i. getD rows i 0) } → accepted g ≡ rowsOf rows
   unfolding rowsOf
   rows-taken g e f h = rw (e, f, h)
+
+-- a graph that somebody put together
+module _ (g : NetworkGraph) where
+  pub graph-size : isSize (g .n) ≡ false → badPositions ≡ graphRefusal g
+  unfolding graphRefusal
+  graph-size e = rw e
+
+  pub graph-links : {x : Bool} → isSize (g .n) ≡ true → allOf (g .n) (λ i. inside (g .n) (getD (g .adj) i 0)) ≡ x → either x 0 badLinks ≡ graphRefusal g
+  unfolding graphRefusal
+  graph-links e f = rw (e, f)
 
 -- one position
 module _ (g : NetworkGraph) (i k : ℕ) (is : k ≡ positionRefusal (g .n) i) where
@@ -114,7 +126,7 @@ unfolding linked
 linked-row g i j h l = rw (lt-ltb i (g .n) h, lt-ltb j (g .n) l)
 
 -- the diameter
-pub length-size : (g : NetworkGraph) → isSize (g .n) ≡ false → record { refusal = 2; links = 0 } ≡ lengthOf g
+pub length-size : (g : NetworkGraph) → isSize (g .n) ≡ false → record { refusal = badPositions; links = 0 } ≡ lengthOf g
 unfolding lengthOf
 length-size g e = rw e
 

@@ -8,6 +8,7 @@ use native.Mathlib.Omega.{arith}
 use lib.ListN.{length, take, getD, set}
 use lib.Seq.{sets, take-suc, length-take-le}
 use borrow.Author.Tests.{eq-eqb, ne-eqb, le-leb, lt-leb}
+use Rattle.limits.specs.Refusals.{noFit}
 use Rattle.loops.specs.Stores.{sets-append}
 use Rattle.graph.specs.Console.{first, room64, unless}
 
@@ -19,7 +20,7 @@ pub first-next : (a b k : ℕ) → a ≡ 0 → k ≡ b → k ≡ first a b
 unfolding first
 first-next a b k h e = e ∙ rw (eq-eqb a 0 h)
 
-pub room-short : (n : ℕ) → n < 64 → 10 ≡ room64 n
+pub room-short : (n : ℕ) → n < 64 → noFit ≡ room64 n
 unfolding room64
 room-short n h = rw (lt-leb 64 n h)
 

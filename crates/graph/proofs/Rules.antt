@@ -10,6 +10,7 @@ use lib.Dec.{eqb, ltb, leb}
 use lib.ListN.{length, set, replicate, length-append}
 use lib.Seq.{sets}
 use borrow.Author.Tests.{eq-eqb, ne-eqb, eqb-true, eqb-false, lt-ltb, le-ltb, ltb-true, le-leb, leb-true, lt-leb}
+use Rattle.limits.specs.Refusals.{badPositions, badLinks, noPosition}
 use Rattle.loops.specs.Pick.{either}
 use Rattle.loops.specs.Stores.{sets-append}
 use Rattle.loops.specs.Table.{filled}
@@ -87,11 +88,11 @@ unfolding graphBy
 graph-filled n link e = rw e
 
 -- 1 to 64 positions, as the code tests it
-pub built-none : (n : ℕ) (link : ℕ → ℕ → Bool) → n ≡ 0 → refused 2 ≡ builtOf n link
+pub built-none : (n : ℕ) (link : ℕ → ℕ → Bool) → n ≡ 0 → refused badPositions ≡ builtOf n link
 unfolding builtOf
 built-none n link e = rw (le-ltb 0 n (omega arith))
 
-pub built-many : (n : ℕ) (link : ℕ → ℕ → Bool) → 0 < n → 64 < n → refused 2 ≡ builtOf n link
+pub built-many : (n : ℕ) (link : ℕ → ℕ → Bool) → 0 < n → 64 < n → refused badPositions ≡ builtOf n link
 unfolding builtOf
 built-many n link h l = rw (lt-ltb 0 n h, lt-leb n 64 l)
 
@@ -142,15 +143,15 @@ list-room m j l e = rw e (omega (arith, members-count m j, count-le m j))
 
 -- refusals 2 and 8, as the code tests them
 module _ (n i : ℕ) where
-  pub position-none : n ≡ 0 → 2 ≡ positionRefusal n i
+  pub position-none : n ≡ 0 → badPositions ≡ positionRefusal n i
   unfolding positionRefusal
   position-none e = rw (le-ltb 0 n (omega arith))
 
-  pub position-many : 0 < n → 64 < n → 2 ≡ positionRefusal n i
+  pub position-many : 0 < n → 64 < n → badPositions ≡ positionRefusal n i
   unfolding positionRefusal
   position-many h l = rw (lt-ltb 0 n h, lt-leb n 64 l)
 
-  pub position-far : 0 < n → n ≤ 64 → n ≤ i → 8 ≡ positionRefusal n i
+  pub position-far : 0 < n → n ≤ 64 → n ≤ i → noPosition ≡ positionRefusal n i
   unfolding positionRefusal
   position-far h l k = rw (lt-ltb 0 n h, le-leb n 64 l, le-ltb i n k)
 
@@ -163,7 +164,7 @@ module _ (n i : ℕ) where
   unfolding positionRefusal
   position-parts e = go (ltb 0 n) (leb n 64) refl (ltb i n) refl e
     where
-      go : (a b : Bool) → leb n 64 ≡ b → (c : Bool) → ltb i n ≡ c → _≡_ {A = ℕ} (either (a && b) (either c 0 8) 2) 0 → (n ≤ 64) × (i < n)
+      go : (a b : Bool) → leb n 64 ≡ b → (c : Bool) → ltb i n ≡ c → _≡_ {A = ℕ} (either (a && b) (either c 0 noPosition) badPositions) 0 → (n ≤ 64) × (i < n)
       go true true p true q e = (leb-true n 64 p, ltb-true i n q)
       go true true p false q e = absurd (omega arith)
       go true false p c q e = absurd (omega arith)
@@ -186,7 +187,7 @@ pair-parts n i j e = go (eqb (positionRefusal n i) 0) refl e
     go false p f = absurd (eqb-false (positionRefusal n i) 0 p f)
 
 -- a topology that takes no argument
-pub plain-refused : (t : Topology) (n argument : ℕ) → (argument ≡ 0 → ⊥) → refused 3 ≡ plainOf t n argument
+pub plain-refused : (t : Topology) (n argument : ℕ) → (argument ≡ 0 → ⊥) → refused badLinks ≡ plainOf t n argument
 plain-refused t n argument h = rw (ne-eqb argument 0 h)
 
 pub plain-built : (t : Topology) (n argument : ℕ) → argument ≡ 0 → builtOf n (linkOf t n) ≡ plainOf t n argument

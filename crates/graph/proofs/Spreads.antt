@@ -21,6 +21,13 @@ use Rattle.graph.specs.Paths.{reached, farthest}
 use Rattle.graph.specs.Waves.{Stepped, Swept}
 use Rattle.graph.proofs.Distance.{no-both, or-cases, or-left, or-right, linked-parts, reached-lt, has-start, has-next, reached-below, reached-more, from-start, still}
 
+-- What follows from x, and never holds without x, is x.
+no-more : (y x : Bool) → (x ≡ true → y ≡ true) → (y && not x) ≡ false → y ≡ x
+no-more true true f p = refl
+no-more true false f p = p
+no-more false true f p = f refl
+no-more false false f p = refl
+
 -- The loop of `spread`: what is out, and what the marks that are left lead to, is what the front leads to.
 module _ (adj : List ℕ) where
   abbrev pub leads : ℕ → ℕ → Bool
@@ -192,13 +199,7 @@ module _ (g : NetworkGraph) (i : ℕ) (size : g .n ≤ 64) where
     same-test = iff (eqb (r .front) 0) (eqb (reached g i (suc k)) (reached g i k)) down up
       where
         agree : r .front ≡ 0 → (j : ℕ) → has (reached g i (suc k)) j ≡ has (reached g i k) j
-        agree e j = by (has (reached g i (suc k)) j) (has (reached g i k) j) (reached-more g i k j) (sym (next-front j) ∙ ap (λ (x : ℕ). has x j) e ∙ has-none j)
-          where
-            by : (y x : Bool) → (x ≡ true → y ≡ true) → (y && not x) ≡ false → y ≡ x
-            by true true f p = refl
-            by true false f p = p
-            by false true f p = f refl
-            by false false f p = refl
+        agree e j = no-more (has (reached g i (suc k)) j) (has (reached g i k) j) (reached-more g i k j) (sym (next-front j) ∙ ap (λ (x : ℕ). has x j) e ∙ has-none j)
 
         down : eqb (r .front) 0 ≡ true → eqb (reached g i (suc k)) (reached g i k) ≡ true
         down e = eq-eqb (reached g i (suc k)) (reached g i k) (same (g .n) (reached g i (suc k)) (reached g i k) (reached-lt g i (suc k)) (reached-lt g i k) (λ j l. agree (eqb-true (r .front) 0 e) j))
@@ -224,13 +225,7 @@ module _ (g : NetworkGraph) (i : ℕ) (size : g .n ≤ 64) where
       whole n k l = omega arith
 
       agree : (j : ℕ) → has (reached g i (suc k)) j ≡ has (reached g i k) j
-      agree j = by (has (reached g i (suc k)) j) (has (reached g i k) j) (reached-more g i k j) (sym (at .front j) ∙ ap (λ (x : ℕ). has x j) e ∙ has-none j)
-        where
-          by : (y x : Bool) → (x ≡ true → y ≡ true) → (y && not x) ≡ false → y ≡ x
-          by true true f p = refl
-          by true false f p = p
-          by false true f p = f refl
-          by false false f p = refl
+      agree j = no-more (has (reached g i (suc k)) j) (has (reached g i k) j) (reached-more g i k j) (sym (at .front j) ∙ ap (λ (x : ℕ). has x j) e ∙ has-none j)
 
       stop : reached g i (suc k) ≡ reached g i k
       stop = same (g .n) (reached g i (suc k)) (reached g i k) (reached-lt g i (suc k)) (reached-lt g i k) (λ j l. agree j)

@@ -6,6 +6,8 @@ use Prim.Native.Nat.{ℕ, _+_, _*_, _/_, _%_}
 use lib.ListN.{length, getD, replicate}
 use lib.Seq.{sets}
 use lib.Dec.{eqb, ltb, leb}
+use Rattle.limits.specs.Limits.{positions}
+use Rattle.limits.specs.Refusals.{badPositions, badLinks, noPosition}
 use Rattle.loops.specs.Pick.{either}
 use Rattle.loops.specs.Table.{filled}
 use Rattle.marks.specs.Marks.{has, marks, allOf, members}
@@ -33,10 +35,10 @@ accepted g = record { refusal = 0; graph = g }
 
 -- Refusal 2: there are 1 to 64 positions.
 abbrev pub isSize : ℕ → Bool
-isSize n = ltb 0 n && leb n 64
+isSize n = ltb 0 n && leb n positions
 
 unfoldable pub builtOf : ℕ → (ℕ → ℕ → Bool) → Built
-builtOf n link = either (isSize n) (accepted (graphBy n link)) (refused 2)
+builtOf n link = either (isSize n) (accepted (graphBy n link)) (refused badPositions)
 
 -- The rules of the five builders, each for one direction of a link; a builder links both ways.
 -- Full mesh: each with each other.
@@ -77,12 +79,15 @@ abbrev pub divides : ℕ → ℕ → Bool
 divides rows n = not (eqb rows 0) && eqb (n % rows) 0
 
 unfoldable pub gridOf : ℕ → ℕ → Built
-gridOf n rows = either (isSize n) (either (divides rows n) (builtOf n (linkOf (Grid (n / rows)) n)) (refused 3)) (refused 2)
+gridOf n rows =
+    either (isSize n)
+    (either (divides rows n) (builtOf n (linkOf (Grid (n / rows)) n)) (refused badLinks))
+    (refused badPositions)
 
 -- 01's numbers of the topologies, as a frame gives them: 1 mesh, 2 line, 3 ring, each with argument 0; 4 grid, by its rows; 5 tree,
 -- by its branching. Refusal 3: any other number, or a wrong argument; refusal 2 comes first.
 abbrev pub plainOf : Topology → ℕ → ℕ → Built
-plainOf t n argument = either (eqb argument 0) (builtOf n (linkOf t n)) (refused 3)
+plainOf t n argument = either (eqb argument 0) (builtOf n (linkOf t n)) (refused badLinks)
 
 unfoldable pub topologyOf : ℕ → ℕ → ℕ → Built
 topologyOf topology n argument =
@@ -92,8 +97,8 @@ topologyOf topology n argument =
     (either (eqb topology 3) (plainOf Ring n argument)
     (either (eqb topology 4) (gridOf n argument)
     (either (eqb topology 5) (builtOf n (linkOf (Tree argument) n))
-    (refused 3))))))
-    (refused 2)
+    (refused badLinks))))))
+    (refused badPositions)
 
 -- Refusal 3 of rows: no mark at n or above.
 unfoldable pub inside : ℕ → ℕ → Bool
@@ -104,12 +109,18 @@ unfoldable pub rowsOf : List ℕ → Built
 rowsOf rows =
     let n = length rows in
     either (isSize n)
-    (either (allOf n (λ i. inside n (getD rows i 0))) (accepted (record { n = n; adj = filled 0 64 n (λ i. getD rows i 0) })) (refused 3))
-    (refused 2)
+    (either (allOf n (λ i. inside n (getD rows i 0)))
+    (accepted (record { n = n; adj = filled 0 64 n (λ i. getD rows i 0) }))
+    (refused badLinks))
+    (refused badPositions)
+
+-- Refusals 2 and 3 of a graph whose numbers may be any.
+unfoldable pub graphRefusal : NetworkGraph → ℕ
+graphRefusal g = either (isSize (g .n)) (either (allOf (g .n) (λ i. inside (g .n) (getD (g .adj) i 0))) 0 badLinks) badPositions
 
 -- Refusals 2 and 8 of a call on one position of a graph, whose numbers may be any.
 unfoldable pub positionRefusal : ℕ → ℕ → ℕ
-positionRefusal n i = either (isSize n) (either (ltb i n) 0 8) 2
+positionRefusal n i = either (isSize n) (either (ltb i n) 0 noPosition) badPositions
 
 -- the row of a position
 unfoldable pub rowOf : NetworkGraph → ℕ → NeighborRow

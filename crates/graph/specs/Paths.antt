@@ -3,6 +3,7 @@ use mathlib.Core.Bool.{true, _||_, _&&_}
 use mathlib.Core.Path.{_≡_}
 use Prim.Native.Nat.{ℕ, zero, suc, _≤_, _<_, max}
 use lib.Dec.{eqb}
+use Rattle.limits.specs.Refusals.{badPositions}
 use Rattle.loops.specs.Pick.{either}
 use Rattle.loops.specs.Upto.{upto}
 use Rattle.marks.specs.Marks.{has, marks, anyOf}
@@ -50,7 +51,10 @@ diameterOf g = upto (g .n) (λ i d. max d (farthest g i (g .n))) 0
 
 -- Refusal 2: the graph has no size that a graph may have.
 unfoldable pub lengthOf : NetworkGraph → PathLength
-lengthOf g = either (isSize (g .n)) (record { refusal = 0; links = diameterOf g }) (record { refusal = 2; links = 0 })
+lengthOf g =
+    either (isSize (g .n))
+    (record { refusal = 0; links = diameterOf g })
+    (record { refusal = badPositions; links = 0 })
 
 -- Some path leads from i to j: it is found within n links, if there is one.
 unfoldable pub reachesOf : NetworkGraph → ℕ → ℕ → LinkTest

@@ -4,18 +4,20 @@ ghost use mathlib.Core.Path.{_≡_};
 ghost use Prim.Native.Nat.{_≤_};
 ghost use lib.ListN.{length};
 ghost use lib.Seq.{sets};
+ghost use Rattle.limits.specs.Limits.{positions};
 ghost use Rattle.graph.specs.Links.{topologyOf, rowsOf, neighborsOf};
 ghost use Rattle.graph.specs.Paths.{hasLinkOf, reachesOf, lengthOf};
 ghost use Rattle.graph.specs.Console.{first, room64, unless, flag};
 use super::network::NetworkGraph;
+use limits::refusals;
 
 // The first 64 numbers of the buffer become these.
 fn put_all(out: &mut [u64], values: [u64; 64])
-    requires { ⌜ 64 ≤ length (now out) ⌝ }
+    requires { ⌜ positions ≤ length (now out) ⌝ }
     ensures { λ _. ⌜ now (out .exit) ≡ sets (now (out .entry)) 0 values ⌝ }
 {
     let mut i: usize = 0;
-    while i < 64 {
+    while i < limits::POSITIONS {
         out[i] = values[i];
         i += 1;
     }
@@ -32,8 +34,8 @@ pub extern "C" fn graph_build(topology: u64, n: usize, argument: usize, rows: &m
     if refusal != 0 {
         return refusal;
     }
-    if rows.len() < 64 {
-        return 10;
+    if rows.len() < limits::POSITIONS {
+        return refusals::NO_FIT;
     }
     let g = b.graph;
     let adj = g.adj;
@@ -59,8 +61,8 @@ pub extern "C" fn graph_neighbors(rows: &[u64], i: usize, out: &mut [u64], count
     if refusal2 != 0 {
         return refusal2;
     }
-    if out.len() < 64 {
-        return 10;
+    if out.len() < limits::POSITIONS {
+        return refusals::NO_FIT;
     }
     let at = l.at;
     put_all(out, at);

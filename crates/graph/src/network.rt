@@ -5,14 +5,16 @@ ghost use mathlib.Core.Bool.{_||_, _&&_};
 ghost use Prim.Native.Nat.{ℕ, _+_, _/_, _≤_, _<_, max};
 ghost use lib.ListN.{length, getD, set};
 ghost use lib.Dec.{eqb, ltb};
+ghost use Rattle.limits.specs.Limits.{positions};
 ghost use Rattle.loops.specs.Pick.{either};
 ghost use Rattle.loops.specs.Table.{filled};
 ghost use Rattle.marks.specs.Marks.{has, marks, anyOf, allOf};
 ghost use Rattle.graph.specs.declared.network.Topology.the-variants.{FullMesh, Line, Ring, Tree};
-ghost use Rattle.graph.specs.Links.{graphBy, builtOf, noGraph, aheadOf, linkOf, ringRule, gridRule, treeRule, gridOf, topologyOf, plainOf, inside, rowsOf, positionRefusal, pairRefusal, rowOf, listOf, neighborsOf};
+ghost use Rattle.graph.specs.Links.{graphBy, builtOf, noGraph, aheadOf, linkOf, ringRule, gridRule, treeRule, gridOf, topologyOf, plainOf, inside, rowsOf, graphRefusal, positionRefusal, pairRefusal, rowOf, listOf, neighborsOf};
 ghost use Rattle.graph.specs.Paths.{Longest, reached, diameterOf, lengthOf, hasLinkOf, reachesOf};
 ghost use Rattle.graph.specs.Waves.{Stepped, Swept};
 use super::sets;
+use limits::refusals;
 
 // n positions; row i holds a mark for each position that hears i.
 pub struct NetworkGraph {
@@ -161,7 +163,7 @@ fn mark_if(m: u64, i: usize, yes: bool) -> u64
 }
 
 fn row_by(t: Topology, n: usize, i: usize) -> u64
-    requires { ⌜ n ≤ 64 ⌝ }
+    requires { ⌜ n ≤ positions ⌝ }
     ensures { λ r. ⌜ r ≡ marks n (linkOf t n i) ⌝ }
 {
     let mut m: u64 = 0;
@@ -174,7 +176,7 @@ fn row_by(t: Topology, n: usize, i: usize) -> u64
 }
 
 fn graph_by(t: Topology, n: usize) -> NetworkGraph
-    requires { ⌜ n ≤ 64 ⌝ }
+    requires { ⌜ n ≤ positions ⌝ }
     ensures { λ r. ⌜ r ≡ graphBy n (linkOf t n) ⌝ }
 {
     let mut adj = [0u64; 64];
@@ -202,10 +204,10 @@ fn build(t: Topology, n: usize) -> Built
     ensures { λ r. ⌜ r ≡ builtOf n (linkOf t n) ⌝ }
 {
     if n == 0 {
-        return refused(2);
+        return refused(refusals::BAD_POSITIONS);
     }
-    if n > 64 {
-        return refused(2);
+    if n > limits::POSITIONS {
+        return refused(refusals::BAD_POSITIONS);
     }
     Built {
         refusal: 0,
@@ -224,10 +226,11 @@ fn row_inside(row: u64, n: usize) -> bool
     false
 }
 
-fn rows_inside(rows: &[u64]) -> bool
-    ensures { λ r. ⌜ r ≡ allOf (length (now (rows .entry))) (λ i. inside (length (now (rows .entry))) (getD (now (rows .entry)) i 0)) ⌝ }
+// Whether the first n rows have no mark at n or above.
+fn rows_inside(rows: &[u64], n: usize) -> bool
+    requires { ⌜ n ≤ length (now rows) ⌝ }
+    ensures { λ r. ⌜ r ≡ allOf n (λ i. inside n (getD (now (rows .entry)) i 0)) ⌝ }
 {
-    let n = rows.len();
     let mut i: usize = 0;
     while i < n {
         if !row_inside(rows[i], n) {
@@ -239,7 +242,7 @@ fn rows_inside(rows: &[u64]) -> bool
 }
 
 fn copy_rows(rows: &[u64]) -> NetworkGraph
-    requires { ⌜ length (now rows) ≤ 64 ⌝ }
+    requires { ⌜ length (now rows) ≤ positions ⌝ }
     ensures { λ r. ⌜ r ≡ record { n = length (now (rows .entry)); adj = filled 0 64 (length (now (rows .entry))) (λ i. getD (now (rows .entry)) i 0) } ⌝ }
 {
     let n = rows.len();
@@ -256,7 +259,7 @@ fn plain(t: Topology, n: usize, argument: usize) -> Built
     ensures { λ r. ⌜ r ≡ plainOf t n argument ⌝ }
 {
     if argument != 0 {
-        return refused(3);
+        return refused(refusals::BAD_LINKS);
     }
     build(t, n)
 }
@@ -266,13 +269,13 @@ fn position_refusal(n: usize, i: usize) -> u64
     ensures { λ r. ⌜ r ≡ positionRefusal n i ⌝ }
 {
     if n == 0 {
-        return 2;
+        return refusals::BAD_POSITIONS;
     }
-    if n > 64 {
-        return 2;
+    if n > limits::POSITIONS {
+        return refusals::BAD_POSITIONS;
     }
     if i >= n {
-        return 8;
+        return refusals::NO_POSITION;
     }
     0
 }
@@ -344,7 +347,7 @@ fn spread(adj: &[u64; 64], front: u64) -> u64
 }
 
 fn last_step(front: u64, links: usize, k: usize) -> usize
-    requires { ⌜ k < 64 ⌝ }
+    requires { ⌜ k < positions ⌝ }
     ensures { λ r. ⌜ r ≡ either (eqb front 0) links (k + 1) ⌝ }
 {
     if front == 0 {
@@ -355,7 +358,7 @@ fn last_step(front: u64, links: usize, k: usize) -> usize
 
 // Step k + 1 of a wave.
 fn wave_step(adj: &[u64; 64], w: Wave, k: usize) -> Wave
-    requires { ⌜ k < 64 ⌝ }
+    requires { ⌜ k < positions ⌝ }
     ensures { λ r. ⌜ Stepped (now (adj .entry)) w k r ⌝ }
 {
     let front = sets::intersection(spread(adj, w.front), w.unseen);
@@ -369,7 +372,7 @@ fn wave_step(adj: &[u64; 64], w: Wave, k: usize) -> Wave
 }
 
 fn wave_from(adj: &[u64; 64], n: usize, start: usize) -> Wave
-    requires { ⌜ (n ≤ 64) × (start < n) ⌝ }
+    requires { ⌜ (n ≤ positions) × (start < n) ⌝ }
     ensures { λ r. ⌜ Swept (record { n = n; adj = now (adj .entry) }) start n r ⌝ }
 {
     let mut w = Wave {
@@ -398,7 +401,7 @@ fn larger(a: usize, b: usize) -> usize
 }
 
 fn longest_path(adj: &[u64; 64], n: usize) -> usize
-    requires { ⌜ n ≤ 64 ⌝ }
+    requires { ⌜ n ≤ positions ⌝ }
     ensures { λ r. ⌜ r ≡ diameterOf (record { n = n; adj = now (adj .entry) }) ⌝ }
 {
     let mut d: usize = 0;
@@ -413,7 +416,7 @@ fn longest_path(adj: &[u64; 64], n: usize) -> usize
 
 // Whether a path leads from i to j.
 fn joined(adj: &[u64; 64], n: usize, i: usize, j: usize) -> bool
-    requires { ⌜ (n ≤ 64) × (i < n) × (j < n) ⌝ }
+    requires { ⌜ (n ≤ positions) × (i < n) × (j < n) ⌝ }
     ensures { λ r. ⌜ r ≡ has (reached (record { n = n; adj = now (adj .entry) }) i n) j ⌝ }
 {
     let w = wave_from(adj, n, i);
@@ -451,16 +454,16 @@ impl NetworkGraph {
         ensures { λ r. ⌜ r ≡ gridOf n rows ⌝ }
     {
         if n == 0 {
-            return refused(2);
+            return refused(refusals::BAD_POSITIONS);
         }
-        if n > 64 {
-            return refused(2);
+        if n > limits::POSITIONS {
+            return refused(refusals::BAD_POSITIONS);
         }
         if rows == 0 {
-            return refused(3);
+            return refused(refusals::BAD_LINKS);
         }
         if n % rows != 0 {
-            return refused(3);
+            return refused(refusals::BAD_LINKS);
         }
         build(Topology::Grid(n / rows), n)
     }
@@ -477,10 +480,10 @@ impl NetworkGraph {
         ensures { λ r. ⌜ r ≡ topologyOf topology n argument ⌝ }
     {
         if n == 0 {
-            return refused(2);
+            return refused(refusals::BAD_POSITIONS);
         }
-        if n > 64 {
-            return refused(2);
+        if n > limits::POSITIONS {
+            return refused(refusals::BAD_POSITIONS);
         }
         match topology {
             1 => plain(Topology::FullMesh, n, argument),
@@ -488,7 +491,7 @@ impl NetworkGraph {
             3 => plain(Topology::Ring, n, argument),
             4 => NetworkGraph::grid(n, argument),
             5 => NetworkGraph::tree(n, argument),
-            _ => refused(3),
+            _ => refused(refusals::BAD_LINKS),
         }
     }
 
@@ -498,18 +501,36 @@ impl NetworkGraph {
     {
         let n = rows.len();
         if n == 0 {
-            return refused(2);
+            return refused(refusals::BAD_POSITIONS);
         }
-        if n > 64 {
-            return refused(2);
+        if n > limits::POSITIONS {
+            return refused(refusals::BAD_POSITIONS);
         }
-        if !rows_inside(rows) {
-            return refused(3);
+        if !rows_inside(rows, n) {
+            return refused(refusals::BAD_LINKS);
         }
         Built {
             refusal: 0,
             graph: copy_rows(rows),
         }
+    }
+
+    // What is wrong with a graph that somebody put together: 2 and 3, and 0 for nothing.
+    pub fn refusal(self) -> u64
+        ensures { λ r. ⌜ r ≡ graphRefusal self ⌝ }
+    {
+        let n = self.n;
+        if n == 0 {
+            return refusals::BAD_POSITIONS;
+        }
+        if n > limits::POSITIONS {
+            return refusals::BAD_POSITIONS;
+        }
+        let adj = self.adj;
+        if !rows_inside(&adj, n) {
+            return refusals::BAD_LINKS;
+        }
+        0
     }
 
     pub fn num_nodes(self) -> usize
@@ -594,13 +615,13 @@ impl NetworkGraph {
         let n = self.n;
         if n == 0 {
             return PathLength {
-                refusal: 2,
+                refusal: refusals::BAD_POSITIONS,
                 links: 0,
             };
         }
-        if n > 64 {
+        if n > limits::POSITIONS {
             return PathLength {
-                refusal: 2,
+                refusal: refusals::BAD_POSITIONS,
                 links: 0,
             };
         }

@@ -12,6 +12,10 @@ use Rattle.marks.specs.Sets.{marks-is, marks-ext, has-marks, any-at, any-found,
 use Rattle.merges.specs.Merging.{entry}
 use Rattle.packets.specs.declared.Bitmap.{Bitmap}
 
+pub and-false : (t : Bool) → (t && false) ≡ false
+and-false true = refl
+and-false false = refl
+
 -- mark j of the word of a test, below 64
 pub has-word : (f : ℕ → Bool) (j : ℕ) → j < 64 → has (marks 64 f) j ≡ f j
 has-word f j h = has-marks 64 f j ∙ ap (λ (t : Bool). t && f j) (lt-ltb j 64 h)

@@ -7,7 +7,7 @@ use native.Mathlib.Omega.{arith}
 use lib.Dec.{ltb, eqb}
 use borrow.Author.Tests.{ltb-true, ltb-false}
 use Rattle.marks.specs.Marks.{has}
-use Rattle.merges.specs.Votes.{add64}
+use Rattle.loops.specs.Wrap.{add64}
 use Rattle.merges.specs.Merging.{
   Noes,
   unanimousOf,
@@ -172,8 +172,8 @@ nothing-heard nay n v l r h = go (r .held) h
     go Unreadable q = refl
     go Packet q = absurd (q refl)
 
--- NewInfo is not Redundant
-told-apart : {A : Type 0} → NewInfo ≡ Redundant → A
+-- Redundant is not NewInfo
+pub told-apart : {A : Type 0} → Redundant ≡ NewInfo → A
 told-apart e = absurd (let z : _≡_ {A = ℕ} 0 1 = cc in omega arith)
 
 abbrev Keeps : Payload → Merged → Type 0
@@ -181,14 +181,14 @@ Keeps l m = m .result ≡ Redundant → m .payload ≡ l
 
 heard-keeps : (nay : Noes) (n v : ℕ) (l : Payload) (p : CeTwoPcPacket) (h : Held) → Keeps l (heardOf nay n v l p h)
 unfolding heardOf
-heard-keeps nay n v l p Empty = λ e. told-apart e
+heard-keeps nay n v l p Empty = λ e. told-apart (sym e)
 heard-keeps nay n v l p Unreadable = λ e. refl
 heard-keeps nay n v l p Packet =
     either-cases (Keeps l) (ltb (l .packet .term) (p .term))
-    (λ x e. told-apart e)
+    (λ x e. told-apart (sym e))
     (λ x. either-cases (Keeps l) (outdated (p .term) (l .packet .term))
     (λ y e. refl)
-    (λ y. either-cases (Keeps l) (sameTermOf nay n v (l .packet) p .news) (λ z e. told-apart e) (λ z e. refl)))
+    (λ y. either-cases (Keeps l) (sameTermOf nay n v (l .packet) p .news) (λ z e. told-apart (sym e)) (λ z e. refl)))
 
 pub redundant-keeps : RedundantKeeps
 unfolding mergeOf mergedBy

@@ -4,7 +4,7 @@ use mathlib.Core.Path.{_≡_, ap, _∙_, sym}
 use Prim.Native.Nat.{ℕ, _+_, _*_, _/_, _%_, _^_, _<_, _≤_}
 use native.Mathlib.Nat.{mul-le-mul}
 use native.Mathlib.Omega.{arith}
-use Rattle.merges.specs.Votes.{add64, mul64}
+use Rattle.loops.specs.Wrap.{add64, mul64}
 
 -- two halves have a product of one word
 pub half-product : (x y : ℕ) → x < 4294967296 → y < 4294967296 → x * y < 2 ^ 64

@@ -17,7 +17,7 @@ use Rattle.texts.specs.Decimal.{digit, decimal, decimal-small, decimal-step, de
 use Rattle.texts.specs.ListLaws.{Every, none, more}
 use Rattle.texts.specs.Put.{written}
 use Rattle.packets.specs.Packets.{ValidBitmap, ValidData, ValidCe, proposalText, proposalData}
-use Rattle.merges.specs.Votes.{add64}
+use Rattle.loops.specs.Wrap.{add64}
 use Rattle.merges.specs.Merging.{Noes, entry, filledOf, markedOf, onlyOf, joinOf, rankOf, withState, ensureOf, decidedOf, acknowledgedOf, raisedOf, mergeOf, blank, proposalOf}
 use Rattle.merges.specs.Sound.{MergesValid, ProposesValid}
 use Rattle.packets.specs.declared.TwoPcPhase.{TwoPcPhase}
@@ -26,6 +26,7 @@ use Rattle.packets.specs.declared.Data.{Data}
 use Rattle.packets.specs.declared.CeTwoPcPacket.{CeTwoPcPacket}
 use Rattle.merges.specs.declared.merging.Payload.{Payload}
 use Rattle.merges.specs.declared.merging.Draft.{Draft}
+use Rattle.merges.proofs.Bitmaps.{and-false}
 use Rattle.merges.proofs.Kept.{merge-keeps, adopted-keeps}
 use Rattle.merges.proofs.Safety.{either-cases}
 
@@ -35,13 +36,9 @@ word-lt len f h =
     rw (marks-is len f (marks 64 (λ j. ltb j len && f j)) h (marks-lt 64 (λ j. ltb j len && f j)) (λ j. has-marks 64 (λ i. ltb i len && f i) j ∙ inside j (ltb j len) refl))
     (marks-lt len f)
   where
-    both-false : (t : Bool) → (t && false) ≡ false
-    both-false true = refl
-    both-false false = refl
-
     inside : (j : ℕ) (t : Bool) → ltb j len ≡ t → (ltb j 64 && (t && f j)) ≡ (t && f j)
     inside j true e = ap (λ (t : Bool). t && f j) (lt-ltb j 64 (omega (arith, ltb-true j len e)))
-    inside j false e = both-false (ltb j 64)
+    inside j false e = and-false (ltb j 64)
 
 module _ (n : ℕ) (atMost64 : n ≤ 64) where
   filled-valid : (b : Bitmap) → ValidBitmap b → ValidBitmap (filledOf n b)
@@ -117,7 +114,7 @@ data-valid : (t : ℕ) → t < 2 ^ 64 → ValidData (proposalData t)
 unfolding proposalData
 data-valid t h =
     record {
-      atMost64 = omega (arith, decimal-word t h);
+      atMost32 = omega (arith, decimal-word t h);
       small = rw (text-back t) (more {x = 116} (omega arith) (more {x = 120} (omega arith) (digits-small t)));
       zeros = ap (written (replicate 32 0) 0) (sym (text-back t));
     }

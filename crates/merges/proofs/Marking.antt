@@ -45,13 +45,14 @@ use Rattle.packets.specs.declared.TwoPcPhase.the-variants.{Prepare, Committed, 
 use Rattle.packets.specs.declared.Bitmap.{Bitmap}
 use Rattle.packets.specs.declared.CeTwoPcPacket.{CeTwoPcPacket}
 use Rattle.merges.specs.declared.merging.MergeResult.{MergeResult}
-use Rattle.merges.specs.declared.merging.MergeResult.the-variants.{Redundant, NewInfo}
+use Rattle.merges.specs.declared.merging.MergeResult.the-variants.{NewInfo}
 use Rattle.merges.specs.declared.merging.Held.{Held}
 use Rattle.merges.specs.declared.merging.Held.the-variants.{Empty, Unreadable, Packet}
 use Rattle.merges.specs.declared.merging.Payload.{Payload}
 use Rattle.merges.specs.declared.merging.Merged.{Merged}
 use Rattle.merges.specs.declared.merging.Draft.{Draft}
 use Rattle.merges.proofs.Bitmaps.{has-word}
+use Rattle.merges.proofs.Growth.{told-apart}
 use Rattle.merges.proofs.Kept.{merge-keeps}
 use Rattle.merges.proofs.Safety.{either-cases, filled-entry, marked-entry, only-entry, join-entry}
 
@@ -166,9 +167,6 @@ module _ (nay : Noes) (n v : ℕ) (inside : v < n) (atMost64 : n ≤ 64) where
 
   abbrev News : Merged → Type 0
   News m = m .result ≡ NewInfo → Own (m .payload .packet)
-
-  told-apart : {A : Type 0} → Redundant ≡ NewInfo → A
-  told-apart e = absurd (let z : _≡_ {A = ℕ} 0 1 = cc in omega arith)
 
   heard-own : (l : Payload) (p : CeTwoPcPacket) (h : Held) → News (heardOf nay n v l p h)
   unfolding heardOf

@@ -10,7 +10,7 @@ use Rattle.loops.specs.Pick.{either}
 use Rattle.marks.specs.Marks.{has, marks, allOf}
 use Rattle.marks.specs.Laws.{has-none}
 use Rattle.marks.specs.Sets.{marks-is, marks-ext, has-marks, true-and, all-found, all-left}
-use Rattle.merges.specs.Votes.{add64}
+use Rattle.loops.specs.Wrap.{add64}
 use Rattle.merges.specs.Merging.{Noes, filledOf, markedOf, onlyOf, unanimousOf, withState, ensureOf, decidedOf, acknowledgedOf, voicedOf, settledOf, settled, adoptedOf, blank, proposalOf}
 use Rattle.merges.specs.Sound.{ProposalSays}
 use Rattle.packets.specs.declared.TwoPcPhase.{TwoPcPhase}
@@ -18,11 +18,7 @@ use Rattle.packets.specs.declared.TwoPcPhase.the-variants.{Prepare, Committed, 
 use Rattle.packets.specs.declared.Bitmap.{Bitmap}
 use Rattle.packets.specs.declared.CeTwoPcPacket.{CeTwoPcPacket}
 use Rattle.merges.specs.declared.merging.Draft.{Draft}
-use Rattle.merges.proofs.Bitmaps.{has-word}
-
-and-false : (t : Bool) → (t && false) ≡ false
-and-false true = refl
-and-false false = refl
+use Rattle.merges.proofs.Bitmaps.{and-false, has-word}
 
 -- an empty bitmap of n is filled already
 no-marks : (n : ℕ) → marks 64 (λ j. ltb j n && has 0 j) ≡ 0

@@ -11,7 +11,7 @@ use Rattle.loops.specs.Pick.{either}
 use Rattle.marks.specs.Marks.{has, marks, allOf}
 use Rattle.marks.specs.Laws.{has-none}
 use Rattle.marks.specs.Sets.{has-marks, and-true, true-and, all-at}
-use Rattle.merges.specs.Votes.{add64}
+use Rattle.loops.specs.Wrap.{add64}
 use Rattle.merges.specs.Merging.{
   Noes,
   entry,

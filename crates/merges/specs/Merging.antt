@@ -7,11 +7,12 @@ use mathlib.Core.List.{List, []}
 use Prim.Native.Nat.{ℕ, _+_, max}
 use lib.Dec.{leb, ltb, eqb}
 use lib.ListN.{getD}
+use Rattle.limits.specs.Limits.{positions}
 use Rattle.loops.specs.Pick.{either}
 use Rattle.marks.specs.Marks.{has, marks, anyOf, allOf}
 use Rattle.packets.specs.Packets.{proposalData}
 use Rattle.packets.specs.Reading.{ceRead}
-use Rattle.merges.specs.Votes.{add64}
+use Rattle.loops.specs.Wrap.{add64}
 use Rattle.packets.specs.declared.TwoPcPhase.{TwoPcPhase}
 use Rattle.packets.specs.declared.TwoPcPhase.the-variants.{Prepare, Committed, Aborted}
 use Rattle.packets.specs.declared.Bitmap.{Bitmap}
@@ -203,7 +204,7 @@ noPayload =
 
 -- the first n of 64 positions, of which there is one or more, all hold phase k - 1
 unfoldable pub allHold : ℕ → ℕ → List Payload → Bool
-allHold n k ls = (ltb 0 n && leb n 64) && allOf n (λ i. eqb (standingOf (getD ls i noPayload)) k)
+allHold n k ls = (ltb 0 n && leb n positions) && allOf n (λ i. eqb (standingOf (getD ls i noPayload)) k)
 
 -- everybody has the same decision
 unfoldable pub networkGoalOf : ℕ → List Payload → Bool

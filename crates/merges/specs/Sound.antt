@@ -5,10 +5,11 @@ use mathlib.Core.Bool.{Bool, true, false, not, _&&_, _||_}
 use mathlib.Core.Logic.{_⊎_}
 use Prim.Native.Nat.{ℕ, _<_, _≤_}
 use lib.Dec.{ltb, eqb}
+use Rattle.limits.specs.Limits.{positions}
 use Rattle.loops.specs.Pick.{either}
 use Rattle.marks.specs.Marks.{has}
 use Rattle.packets.specs.Packets.{ValidCe}
-use Rattle.merges.specs.Votes.{add64}
+use Rattle.loops.specs.Wrap.{add64}
 use Rattle.merges.specs.Merging.{Noes, entry, onlyOf, rankOf, withState, adoptedOf, newInfo, mergeOf, blank, proposalOf}
 use Rattle.packets.specs.declared.TwoPcPhase.{TwoPcPhase}
 use Rattle.packets.specs.declared.TwoPcPhase.the-variants.{Prepare, Committed, Aborted}
@@ -116,7 +117,7 @@ MarksStay =
 -- what was news has the own mark
 abbrev pub OwnMark : Type 0
 OwnMark =
-    (nay : Noes) (n v : ℕ) (l r : Payload) → v < n → n ≤ 64 → mergeOf nay n v l r .result ≡ NewInfo
+    (nay : Noes) (n v : ℕ) (l r : Payload) → v < n → n ≤ positions → mergeOf nay n v l r .result ≡ NewInfo
     → entry (leaves nay n v l r .«flags_bitmap») v ≡ true
 
 -- ---- limits: what is within them, with nothing behind its lengths, merges to what is so too
@@ -124,10 +125,12 @@ abbrev pub ValidHeld : Payload → Type 0
 ValidHeld l = l .held ≡ Packet → ValidCe (l .packet)
 
 abbrev pub MergesValid : Type 0
-MergesValid = (nay : Noes) (n v : ℕ) (l r : Payload) → n ≤ 64 → ValidHeld l → ValidHeld r → ValidHeld (mergeOf nay n v l r .payload)
+MergesValid =
+    (nay : Noes) (n v : ℕ) (l r : Payload) → n ≤ positions
+    → ValidHeld l → ValidHeld r → ValidHeld (mergeOf nay n v l r .payload)
 
 abbrev pub ProposesValid : Type 0
-ProposesValid = (nay : Noes) (n v t : ℕ) → n ≤ 64 → ValidCe (proposalOf nay n v t)
+ProposesValid = (nay : Noes) (n v t : ℕ) → n ≤ positions → ValidCe (proposalOf nay n v t)
 
 -- ---- what 01, "Capture round", says of a proposal: a maker that votes no aborts, a lone one commits, any other waits for votes; the one mark is the maker's
 abbrev pub ProposalSays : Type 0

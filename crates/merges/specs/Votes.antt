@@ -5,14 +5,8 @@ use Prim.Native.Nat.{ℕ, _+_, _*_, _%_, _^_}
 use lib.IntN.{pos}
 use lib.Ieee.{Float, binary64, div, ofInt, ofBits, lt, le}
 use Rattle.loops.specs.Pick.{either}
+use Rattle.loops.specs.Wrap.{add64, mul64}
 use Rattle.merges.specs.declared.votes.Voting.{Voting}
-
--- sums and products keep 64 binary digits
-abbrev pub add64 : ℕ → ℕ → ℕ
-add64 a b = (a + b) % 2 ^ 64
-
-abbrev pub mul64 : ℕ → ℕ → ℕ
-mul64 a b = a * b % 2 ^ 64
 
 -- the hash of term t and position v under a seed
 unfoldable pub hashOf : ℕ → ℕ → ℕ → ℕ

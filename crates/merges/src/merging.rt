@@ -426,7 +426,7 @@ fn all_stand(payloads: [Payload; 64], n: usize, k: u64) -> bool
     if n == 0 {
         return false;
     }
-    if n > 64 {
+    if n > limits::POSITIONS {
         return false;
     }
     let mut i = 0;

@@ -1,7 +1,8 @@
 // How a position votes on a proposal: by its hash with the term, so that whoever asks gets the same answer.
 ghost use mathlib.Core.Path.{_≡_};
 ghost use lib.Ieee.{binary64};
-ghost use Rattle.merges.specs.Votes.{mul64, hashOf, shareOf, noOf};
+ghost use Rattle.merges.specs.Votes.{hashOf, shareOf, noOf};
+ghost use Rattle.loops.specs.Wrap.{mul64};
 
 // What a vote and a merge turn on: the number of positions, how likely a no is, and the seed. A room's settings hold them.
 pub struct Voting {

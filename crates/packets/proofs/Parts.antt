@@ -71,7 +71,7 @@ marks-sound s at w n h = of (list-sound bool-reads storeMark 64 0 s at w n h)
         let bs : List Bool = l .items in
         let e : marksOf (stored storeMark 0 bs 0) (length bs) ≡ bs = ap (λ (m : ℕ). marksOf m (length bs)) (stored-word bs) ∙ marks-of-word bs in
         subst (λ (v : ℕ × ℕ). Has s at (listText boolText (marksOf (v .1) (v .0))) n × ValidBitmap (bitmapOf v)) (l .value)
-        (has-as (ap (listText boolText) (sym e)) (l .has), record { atMost64 = l .atMost64; marks-lt = subst (λ (m : ℕ). m < 2 ^ length bs) (sym (stored-word bs)) (word-lt bs) })
+        (has-as (ap (listText boolText) (sym e)) (l .has), record { atMost64 = l .bounded; marks-lt = subst (λ (m : ℕ). m < 2 ^ length bs) (sym (stored-word bs)) (word-lt bs) })
 
 marks-complete : (s : List ℕ) (at : ℕ) (w : ℕ × ℕ) (n : ℕ) → Has s at (bitmapText (bitmapOf w)) n → ValidBitmap (bitmapOf w) → headDigit (drop n s) ≡ false
     → listAt boolAt storeMark 64 0 s at ≡ got w n
@@ -109,20 +109,20 @@ bytes-sound s at w n h = of (list-sound byte-reads storeByte 32 zeros s at w n h
     of : Listed byte-reads storeByte 32 zeros s at w n → Has s at (listText decimal (take (w .0) (w .1))) n × ValidData (dataOf w)
     of l =
         let xs : List ℕ = l .items in
-        let st : stored storeByte 0 xs zeros ≡ written zeros 0 xs = stored-bytes xs 0 zeros (omega (arith, l .atMost64)) in
+        let st : stored storeByte 0 xs zeros ≡ written zeros 0 xs = stored-bytes xs 0 zeros (omega (arith, l .bounded)) in
         let e : take (length xs) (stored storeByte 0 xs zeros) ≡ xs = ap (take (length xs)) st ∙ front xs in
         subst (λ (v : ℕ × List ℕ). Has s at (listText decimal (take (v .0) (v .1))) n × ValidData (dataOf v)) (l .value) (
           has-as (ap (listText decimal) (sym e)) (l .has),
-          record { atMost64 = l .atMost64; small = subst (Every (λ x. x < 256)) (sym e) (l .may); zeros = st ∙ ap (written zeros 0) (sym e) },
+          record { atMost32 = l .bounded; small = subst (Every (λ x. x < 256)) (sym e) (l .may); zeros = st ∙ ap (written zeros 0) (sym e) },
         )
 
 -- a valid array has its 32 bytes
 pub full : (d : Data) → ValidData d → length (take (d .len) (d .bytes)) ≡ d .len
 full d v =
     let xs : List ℕ = take (d .len) (d .bytes) in
-    let short : length xs ≤ 32 = omega (arith, length-take (d .len) (d .bytes), v .atMost64) in
+    let short : length xs ≤ 32 = omega (arith, length-take (d .len) (d .bytes), v .atMost32) in
     let whole : length (d .bytes) ≡ 32 = ap length (v .zeros) ∙ length-written zeros 0 xs (omega arith) in
-    length-take-le (d .len) (d .bytes) (omega (arith, v .atMost64))
+    length-take-le (d .len) (d .bytes) (omega (arith, v .atMost32))
 
 bytes-complete : (s : List ℕ) (at : ℕ) (w : ℕ × List ℕ) (n : ℕ) → Has s at (dataText (dataOf w)) n → ValidData (dataOf w) → headDigit (drop n s) ≡ false
     → listAt (numAt 256) storeByte 32 zeros s at ≡ got w n
@@ -130,8 +130,8 @@ unfolding dataText
 bytes-complete s at w n h v d =
     let xs : List ℕ = take (w .0) (w .1) in
     let l : length xs ≡ w .0 = full (dataOf w) v in
-    list-complete byte-reads storeByte decimals-open xs 32 zeros s at n (v .small) (omega (arith, v .atMost64)) h
-    ∙ ap₂ (λ (x : ℕ) (y : List ℕ). got (x, y) n) l (stored-bytes xs 0 zeros (omega (arith, v .atMost64)) ∙ sym (v .zeros))
+    list-complete byte-reads storeByte decimals-open xs 32 zeros s at n (v .small) (omega (arith, v .atMost32)) h
+    ∙ ap₂ (λ (x : ℕ) (y : List ℕ). got (x, y) n) l (stored-bytes xs 0 zeros (omega (arith, v .atMost32)) ∙ sym (v .zeros))
 
 pub data-reads : Reads dataAt dataText ValidData
 unfolding dataAt

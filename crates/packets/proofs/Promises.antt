@@ -8,6 +8,7 @@ use native.Mathlib.Omega.{arith}
 use lib.Dec.{T, eqb}
 use borrow.Author.Tests.{eqb-true, eqb-false}
 use lib.ListN.{length, take, drop, length-append}
+use Rattle.limits.specs.Refusals.{badPacket}
 use Rattle.marks.specs.Marks.{marksOf}
 use Rattle.texts.specs.Decimal.{decimal, decimal-word, decimal-le}
 use Rattle.texts.specs.Readers.{Found, got, bad, on, whole, both, behind, isDigit, headDigit, numAt, boolText, itemsText, listText, Reads}
@@ -97,7 +98,7 @@ list-short (x ∷ r) (more h k) = omega (arith, decimal-le x 2 (omega arith), le
 
 data-short : (d : Data) → ValidData d → length (dataText d) ≤ 129
 unfolding dataText
-data-short d v = omega (arith, list-short (take (d .len) (d .bytes)) (v .small), full d v, v .atMost64)
+data-short d v = omega (arith, list-short (take (d .len) (d .bytes)) (v .small), full d v, v .atMost32)
 
 bitmap-short : (b : Bitmap) → ValidBitmap b → length (bitmapText b) ≤ 385
 bitmap-short b v = go (eqb (b .len) 0) refl
@@ -152,8 +153,8 @@ ce-given : (s : List ℕ) → ceReadOf s .refusal ≡ 0 → (s ≡ ceText (ceRea
 unfolding ceReadOf ceNo on
 ce-given s h = go (whole ceFields keyEnd s) refl h
   where
-    go : (x : Found (ℕ × (TwoPcPhase × (Data × Bitmap)))) → whole ceFields keyEnd s ≡ x → on x (λ w n. ceYes (cePacket w)) (ceNo 9) .refusal ≡ 0
-        → (s ≡ ceText (on x (λ w n. ceYes (cePacket w)) (ceNo 9) .packet)) × ValidCe (on x (λ w n. ceYes (cePacket w)) (ceNo 9) .packet)
+    go : (x : Found (ℕ × (TwoPcPhase × (Data × Bitmap)))) → whole ceFields keyEnd s ≡ x → on x (λ w n. ceYes (cePacket w)) (ceNo badPacket) .refusal ≡ 0
+        → (s ≡ ceText (on x (λ w n. ceYes (cePacket w)) (ceNo badPacket) .packet)) × ValidCe (on x (λ w n. ceYes (cePacket w)) (ceNo badPacket) .packet)
     go (got w n) e k = let q = whole-sound keyEnd ce-reads s w n e in (q .0 ∙ ce-text w, ce-valid w (q .1))
     go bad e k = absurd (omega arith)
 
@@ -161,11 +162,11 @@ ce-back : (p : CeTwoPcPacket) → ValidCe p → ceReadOf (ceText p) ≡ ceYes p
 unfolding ceReadOf on
 ce-back p v = rw (whole-complete keyEnd ce-reads (ceText p) (ceValues p) end-stops (ce-may p v) (sym (ce-text (ceValues p))))
 
-ce-other : (s : List ℕ) → ((p : CeTwoPcPacket) → ValidCe p → s ≡ ceText p → ⊥) → ceReadOf s .refusal ≡ 9
+ce-other : (s : List ℕ) → ((p : CeTwoPcPacket) → ValidCe p → s ≡ ceText p → ⊥) → ceReadOf s .refusal ≡ badPacket
 unfolding ceReadOf ceNo on
 ce-other s h = go (whole ceFields keyEnd s) refl
   where
-    go : (x : Found (ℕ × (TwoPcPhase × (Data × Bitmap)))) → whole ceFields keyEnd s ≡ x → on x (λ w n. ceYes (cePacket w)) (ceNo 9) .refusal ≡ 9
+    go : (x : Found (ℕ × (TwoPcPhase × (Data × Bitmap)))) → whole ceFields keyEnd s ≡ x → on x (λ w n. ceYes (cePacket w)) (ceNo badPacket) .refusal ≡ badPacket
     go (got w n) e = let q = whole-sound keyEnd ce-reads s w n e in absurd (h (cePacket w) (ce-valid w (q .1)) (q .0 ∙ ce-text w))
     go bad e = refl
 
@@ -243,8 +244,8 @@ pipeline-given : (s : List ℕ) → pipelineReadOf s .refusal ≡ 0 → (s ≡ p
 unfolding pipelineReadOf pipelineNo on
 pipeline-given s h = go (whole pipelineFields keyEnd s) refl h
   where
-    go : (x : Found (PipelineValues)) → whole pipelineFields keyEnd s ≡ x → on x (λ w n. pipelineYes (pipelinePacket w)) (pipelineNo 9) .refusal ≡ 0
-        → (s ≡ pipelineText (on x (λ w n. pipelineYes (pipelinePacket w)) (pipelineNo 9) .packet)) × ValidPipeline (on x (λ w n. pipelineYes (pipelinePacket w)) (pipelineNo 9) .packet)
+    go : (x : Found (PipelineValues)) → whole pipelineFields keyEnd s ≡ x → on x (λ w n. pipelineYes (pipelinePacket w)) (pipelineNo badPacket) .refusal ≡ 0
+        → (s ≡ pipelineText (on x (λ w n. pipelineYes (pipelinePacket w)) (pipelineNo badPacket) .packet)) × ValidPipeline (on x (λ w n. pipelineYes (pipelinePacket w)) (pipelineNo badPacket) .packet)
     go (got w n) e k = let q = whole-sound keyEnd pipeline-reads s w n e in (q .0 ∙ pipeline-text w, pipeline-valid w (q .1))
     go bad e k = absurd (omega arith)
 
@@ -252,11 +253,11 @@ pipeline-back : (p : TwoPcPacket) → ValidPipeline p → pipelineReadOf (pipeli
 unfolding pipelineReadOf on
 pipeline-back p v = rw (whole-complete keyEnd pipeline-reads (pipelineText p) (pipelineValues p) end-stops (pipeline-may p v) (sym (pipeline-text (pipelineValues p))))
 
-pipeline-other : (s : List ℕ) → ((p : TwoPcPacket) → ValidPipeline p → s ≡ pipelineText p → ⊥) → pipelineReadOf s .refusal ≡ 9
+pipeline-other : (s : List ℕ) → ((p : TwoPcPacket) → ValidPipeline p → s ≡ pipelineText p → ⊥) → pipelineReadOf s .refusal ≡ badPacket
 unfolding pipelineReadOf pipelineNo on
 pipeline-other s h = go (whole pipelineFields keyEnd s) refl
   where
-    go : (x : Found (PipelineValues)) → whole pipelineFields keyEnd s ≡ x → on x (λ w n. pipelineYes (pipelinePacket w)) (pipelineNo 9) .refusal ≡ 9
+    go : (x : Found (PipelineValues)) → whole pipelineFields keyEnd s ≡ x → on x (λ w n. pipelineYes (pipelinePacket w)) (pipelineNo badPacket) .refusal ≡ badPacket
     go (got w n) e = let q = whole-sound keyEnd pipeline-reads s w n e in absurd (h (pipelinePacket w) (pipeline-valid w (q .1)) (q .0 ∙ pipeline-text w))
     go bad e = refl
 

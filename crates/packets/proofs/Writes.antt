@@ -8,6 +8,7 @@ use native.Mathlib.Omega.{arith}
 use lib.Dec.{leb}
 use lib.ListN.{length, length-append}
 use borrow.Author.Tests.{le-leb, lt-leb, leb-true}
+use Rattle.limits.specs.Refusals.{badPacket, noFit}
 use Rattle.texts.specs.Put.{written, Put, Room}
 use Rattle.texts.specs.Decimal.{decimal}
 use Rattle.texts.specs.Readers.{boolText}
@@ -30,13 +31,13 @@ limits-true a b h = go (leb a 64) refl h
     go false e k = let z : _≡_ {A = ℕ} 0 1 = cc in absurd (omega arith)
 
 module _ (t d : List ℕ) (at : ℕ) where
-  pub wrote-9 : (fine : Bool) → fine ≡ false → (refused 9 ≡ wroteOf fine t d at) × (d ≡ leftOf fine t d at)
+  pub wrote-bad : (fine : Bool) → fine ≡ false → (refused badPacket ≡ wroteOf fine t d at) × (d ≡ leftOf fine t d at)
   unfolding wroteOf leftOf
-  wrote-9 fine e = (rw e, rw e)
+  wrote-bad fine e = (rw e, rw e)
 
-  pub wrote-10 : (fine : Bool) → fine ≡ true → length d < at + length t → (refused 10 ≡ wroteOf fine t d at) × (d ≡ leftOf fine t d at)
+  pub wrote-short : (fine : Bool) → fine ≡ true → length d < at + length t → (refused noFit ≡ wroteOf fine t d at) × (d ≡ leftOf fine t d at)
   unfolding wroteOf leftOf
-  wrote-10 fine e h = (rw (e, lt-leb (at + length t) (length d) h), rw (e, lt-leb (at + length t) (length d) h))
+  wrote-short fine e h = (rw (e, lt-leb (at + length t) (length d) h), rw (e, lt-leb (at + length t) (length d) h))
 
 pub wrote : {d : List ℕ} {at : ℕ} {t : List ℕ} {r : ℕ} {d′ : List ℕ} (fine : Bool) → fine ≡ true → Room d at t → Put d at t r d′
     → (record { refusal = 0; next = r } ≡ wroteOf fine t d at) × (d′ ≡ leftOf fine t d at)

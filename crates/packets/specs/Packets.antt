@@ -6,6 +6,7 @@ use mathlib.Core.List.{List, [], _∷_, _++_}
 use Prim.Native.Nat.{ℕ, _+_, _^_, _≤_, _<_}
 use lib.Dec.{leb}
 use lib.ListN.{length, take, replicate}
+use Rattle.limits.specs.Limits.{bitmapEntries, dataBytes}
 use Rattle.marks.specs.Marks.{marksOf}
 use Rattle.texts.specs.Put.{written}
 use Rattle.texts.specs.Decimal.{decimal}
@@ -124,7 +125,7 @@ pipelineText p =
 
 -- refusal 9: a packet within the limits has at most 64 entries in its bitmap and at most 32 bytes of data
 unfoldable pub limits : ℕ → ℕ → Bool
-limits entries bytes = leb entries 64 && leb bytes 32
+limits entries bytes = leb entries bitmapEntries && leb bytes dataBytes
 
 abbrev pub ceWithin : CeTwoPcPacket → Bool
 ceWithin p = limits (p .«flags_bitmap» .len) (p .«proposal_data» .len)
@@ -134,11 +135,11 @@ pipelineWithin p = limits (p .«flags_bitmap» .len) (p .«transaction_data» .l
 
 -- ---- The packets that a text stands for: within the limits, numbers of 64 bits, bytes of 8, and nothing behind the lengths.
 pub record ValidBitmap (b : Bitmap) : Type 0 where
-  pub atMost64 : b .len ≤ 64
+  pub atMost64 : b .len ≤ bitmapEntries
   pub marks-lt : b .marks < 2 ^ b .len
 
 pub record ValidData (d : Data) : Type 0 where
-  pub atMost64 : d .len ≤ 32
+  pub atMost32 : d .len ≤ dataBytes
   pub small : Every (λ x. x < 256) (take (d .len) (d .bytes))
   pub zeros : d .bytes ≡ written (replicate 32 0) 0 (take (d .len) (d .bytes))
 

@@ -4,6 +4,7 @@ use mathlib.Core.Path.{_≡_}
 use mathlib.Core.List.{List}
 use Prim.Native.Nat.{ℕ, _≤_}
 use lib.ListN.{length}
+use Rattle.limits.specs.Refusals.{badPacket}
 use Rattle.texts.specs.Rfc8259.{Tree, Json}
 use Rattle.packets.specs.Packets.{ceText, pipelineText, ValidCe, ValidPipeline}
 use Rattle.packets.specs.Reading.{ceReadOf, pipelineReadOf}
@@ -29,7 +30,7 @@ pub record Promises
   -- a packet that was written is read back
   pub back : (p : P) → Valid p → (refusal (text p) ≡ 0) × (packet (text p) ≡ p)
   -- any other text is refused as 9
-  pub other : (s : List ℕ) → ((p : P) → Valid p → s ≡ text p → ⊥) → refusal s ≡ 9
+  pub other : (s : List ℕ) → ((p : P) → Valid p → s ≡ text p → ⊥) → refusal s ≡ badPacket
   -- no text stands for two packets; equal packets have equal texts as `text` is a function
   pub one : (p q : P) → Valid p → Valid q → text p ≡ text q → p ≡ q
   -- the longest text

@@ -6,6 +6,8 @@ use mathlib.Core.List.{List, [], _∷_}
 use Prim.Native.Nat.{ℕ, _+_, _^_}
 use lib.Dec.{leb}
 use lib.ListN.{length, take, replicate}
+use Rattle.limits.specs.Limits.{bitmapEntries, dataBytes}
+use Rattle.limits.specs.Refusals.{badPacket, noFit}
 use Rattle.loops.specs.Pick.{either}
 use Rattle.texts.specs.Literals.{litAt}
 use Rattle.texts.specs.Readers.{Found, got, bad, Reader, on, map, behind, both, whole, numAt, boolAt, orNull, listAt}
@@ -65,14 +67,14 @@ abbrev pub bitmapOf : ℕ × ℕ → Bitmap
 bitmapOf w = record { len = w .0; marks = w .1 }
 
 unfoldable pub bitmapAt : Reader Bitmap
-bitmapAt s at = map bitmapOf (listAt boolAt storeMark 64 0 s at)
+bitmapAt s at = map bitmapOf (listAt boolAt storeMark bitmapEntries 0 s at)
 
 -- an array of at most 32 numbers below 256, stored from the first byte on, with zeros behind them
 abbrev pub dataOf : ℕ × List ℕ → Data
 dataOf w = record { len = w .0; bytes = w .1 }
 
 unfoldable pub dataAt : Reader Data
-dataAt s at = map dataOf (listAt (numAt 256) storeByte 32 (replicate 32 0) s at)
+dataAt s at = map dataOf (listAt (numAt 256) storeByte dataBytes (replicate 32 0) s at)
 
 unfoldable pub txAt : Reader PiggybackTx
 txAt = orNull tx.Absent (λ s at. map tx.Present (numAt (2 ^ 64) s at))
@@ -150,17 +152,17 @@ pipelineYes p = record { refusal = 0; packet = p }
 
 -- refusal 9: any other text
 unfoldable pub ceReadOf : List ℕ → CeRead
-ceReadOf s = on (whole ceFields keyEnd s) (λ w n. ceYes (cePacket w)) (ceNo 9)
+ceReadOf s = on (whole ceFields keyEnd s) (λ w n. ceYes (cePacket w)) (ceNo badPacket)
 
 unfoldable pub pipelineReadOf : List ℕ → PipelineRead
-pipelineReadOf s = on (whole pipelineFields keyEnd s) (λ w n. pipelineYes (pipelinePacket w)) (pipelineNo 9)
+pipelineReadOf s = on (whole pipelineFields keyEnd s) (λ w n. pipelineYes (pipelinePacket w)) (pipelineNo badPacket)
 
 -- refusal 10, before 9: the stated length exceeds the buffer. Nothing behind the stated length is read
 unfoldable pub ceRead : List ℕ → ℕ → CeRead
-ceRead s len = either (leb len (length s)) (ceReadOf (take len s)) (ceNo 10)
+ceRead s len = either (leb len (length s)) (ceReadOf (take len s)) (ceNo noFit)
 
 unfoldable pub pipelineRead : List ℕ → ℕ → PipelineRead
-pipelineRead s len = either (leb len (length s)) (pipelineReadOf (take len s)) (pipelineNo 10)
+pipelineRead s len = either (leb len (length s)) (pipelineReadOf (take len s)) (pipelineNo noFit)
 
 -- ---- what the code's readers of parts answer, in the code's own types
 abbrev pub numFound : Found ℕ → NumRead

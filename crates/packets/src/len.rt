@@ -7,6 +7,7 @@ use crate::TwoPcPhase;
 ghost use mathlib.Core.Path.{_≡_};
 ghost use Prim.Native.Nat.{_≤_};
 ghost use lib.ListN.{length, take};
+ghost use Rattle.limits.specs.Limits.{bitmapEntries, dataBytes};
 ghost use Rattle.texts.specs.Decimal.{decimal};
 ghost use Rattle.marks.specs.Marks.{marksOf};
 ghost use Rattle.texts.specs.Readers.{boolText, itemsText};
@@ -42,7 +43,7 @@ pub(crate) fn phase_len(p: TwoPcPhase) -> usize
 
 // An entry and what stands before it are 5 bytes for true and 6 for false, and the closing bracket is 1.
 fn marks_len(m: u64, n: usize) -> usize
-    requires { ⌜ n ≤ 64 ⌝ }
+    requires { ⌜ n ≤ bitmapEntries ⌝ }
     ensures { λ r. ⌜ r ≡ length (itemsText boolText (marksOf m n)) ⌝ }
 {
     let mut len = 1;
@@ -57,7 +58,7 @@ fn marks_len(m: u64, n: usize) -> usize
 }
 
 pub(crate) fn bitmap_len(b: Bitmap) -> usize
-    requires { ⌜ b .len ≤ 64 ⌝ }
+    requires { ⌜ b .len ≤ bitmapEntries ⌝ }
     ensures { λ r. ⌜ r ≡ length (bitmapText b) ⌝ }
 {
     if b.len == 0 {
@@ -78,7 +79,7 @@ fn small_len(b: u8) -> usize
 
 // A byte and what stands before it.
 fn bytes_len(d: &[u8], n: usize) -> usize
-    requires { ⌜ (n ≤ 32) × (n ≤ length (now d)) ⌝ }
+    requires { ⌜ (n ≤ dataBytes) × (n ≤ length (now d)) ⌝ }
     ensures { λ r. ⌜ (r ≡ length (itemsText decimal (take n (now (d .entry))))) × (r ≤ 129) ⌝ }
 {
     let mut len = 1;
@@ -91,7 +92,7 @@ fn bytes_len(d: &[u8], n: usize) -> usize
 }
 
 pub(crate) fn data_len(d: Data) -> usize
-    requires { ⌜ d .len ≤ 32 ⌝ }
+    requires { ⌜ d .len ≤ dataBytes ⌝ }
     ensures { λ r. ⌜ (r ≡ length (dataText d)) × (r ≤ 129) ⌝ }
 {
     let bytes = d.bytes;
@@ -124,8 +125,8 @@ pub(crate) fn state_len(p: PiggybackState) -> usize
 pub fn within(entries: usize, bytes: usize) -> bool
     ensures { λ r. ⌜ r ≡ limits entries bytes ⌝ }
 {
-    if entries > 64 {
+    if entries > limits::BITMAP {
         return false;
     }
-    if bytes > 32 { false } else { true }
+    if bytes > limits::DATA { false } else { true }
 }

@@ -7,6 +7,7 @@ use crate::TwoPcPhase;
 ghost use mathlib.Core.List.{[], _∷_, _++_};
 ghost use Prim.Native.Nat.{_≤_, _<_};
 ghost use lib.ListN.{length, take, drop};
+ghost use Rattle.limits.specs.Limits.{dataBytes};
 ghost use Rattle.marks.specs.Marks.{marksOf};
 ghost use Rattle.texts.specs.Put.{Put, Room};
 ghost use Rattle.texts.specs.Decimal.{decimal};
@@ -147,7 +148,7 @@ fn put_bytes(buf: &mut [u8], at: usize, d: &[u8], n: usize) -> usize
 }
 
 pub(crate) fn put_data(buf: &mut [u8], at: usize, d: Data) -> usize
-    requires { ⌜ (d .len ≤ 32) × Room (now buf) at (dataText d) ⌝ }
+    requires { ⌜ (d .len ≤ dataBytes) × Room (now buf) at (dataText d) ⌝ }
     ensures { λ r. ⌜ Put (now (buf .entry)) at (dataText d) r (now (buf .exit)) ⌝ }
 {
     let bytes = d.bytes;
@@ -209,7 +210,7 @@ pub(crate) fn put_bitmap_field(buf: &mut [u8], at: usize, key: &[u8], b: Bitmap)
 }
 
 pub(crate) fn put_data_field(buf: &mut [u8], at: usize, key: &[u8], d: Data) -> usize
-    requires { ⌜ (d .len ≤ 32) × Room (now buf) at (now key ++ dataText d) ⌝ }
+    requires { ⌜ (d .len ≤ dataBytes) × Room (now buf) at (now key ++ dataText d) ⌝ }
     ensures { λ r. ⌜ Put (now (buf .entry)) at (now (key .entry) ++ dataText d) r (now (buf .exit)) ⌝ }
 {
     let o = put_all(buf, at, key);

@@ -203,7 +203,7 @@ fn read_bitmap(s: &[u8], at: usize) -> BitmapRead
     let mut i = at + 1;
     let mut k: usize = 0;
     let mut m: u64 = 0;
-    while k < 64 {
+    while k < limits::BITMAP {
         let BoolRead::Got { value, next } = read_bool(s, i) else {
             return BitmapRead::Bad;
         };
@@ -261,7 +261,7 @@ fn read_data(s: &[u8], at: usize) -> DataRead
     }
     let mut i = at + 1;
     let mut k: usize = 0;
-    while k < 32 {
+    while k < limits::DATA {
         let NumRead::Got { value, next } = read_num(s, i, 255) else {
             return no_data();
         };

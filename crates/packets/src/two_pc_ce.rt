@@ -11,9 +11,11 @@ use crate::read;
 use crate::read::BitmapRead;
 use crate::read::NumRead;
 use crate::read::PhaseRead;
+use limits::refusals;
 ghost use mathlib.Core.Path.{_≡_};
 ghost use Prim.Native.Nat.{_≤_};
 ghost use lib.ListN.{length};
+ghost use Rattle.limits.specs.Limits.{bitmapEntries, dataBytes};
 ghost use Rattle.texts.specs.Put.{Put, Room};
 ghost use Rattle.packets.specs.Packets.{ceText, ceWithin, proposalData};
 ghost use Rattle.packets.specs.Writing.{textLen, wroteOf, leftOf};
@@ -21,7 +23,7 @@ ghost use Rattle.packets.specs.Reading.{ceNo, ceReadOf, ceRead};
 
 // The names, braces, commas and colons are 51 bytes.
 fn ce_len(p: CeTwoPcPacket) -> usize
-    requires { ⌜ (p .«flags_bitmap» .len ≤ 64) × (p .«proposal_data» .len ≤ 32) ⌝ }
+    requires { ⌜ (p .«flags_bitmap» .len ≤ bitmapEntries) × (p .«proposal_data» .len ≤ dataBytes) ⌝ }
     ensures { λ r. ⌜ r ≡ length (ceText p) ⌝ }
 {
     let phase = p.phase;
@@ -45,7 +47,7 @@ pub fn ce_text_len(p: CeTwoPcPacket) -> usize
 }
 
 fn put_ce(buf: &mut [u8], at: usize, p: CeTwoPcPacket) -> usize
-    requires { ⌜ (p .«proposal_data» .len ≤ 32) × Room (now buf) at (ceText p) ⌝ }
+    requires { ⌜ (p .«proposal_data» .len ≤ dataBytes) × Room (now buf) at (ceText p) ⌝ }
     ensures { λ r. ⌜ Put (now (buf .entry)) at (ceText p) r (now (buf .exit)) ⌝ }
 {
     let phase = p.phase;
@@ -65,19 +67,19 @@ pub fn write_ce_packet(buf: &mut [u8], at: usize, p: CeTwoPcPacket) -> Wrote
 {
     if !len::within(p.flags_bitmap.len, p.proposal_data.len) {
         return Wrote {
-            refusal: 9,
+            refusal: refusals::BAD_PACKET,
             next: 0,
         };
     }
     if at > buf.len() {
         return Wrote {
-            refusal: 10,
+            refusal: refusals::NO_FIT,
             next: 0,
         };
     }
     if ce_len(p) > buf.len() - at {
         return Wrote {
-            refusal: 10,
+            refusal: refusals::NO_FIT,
             next: 0,
         };
     }
@@ -111,18 +113,18 @@ fn read_ce(s: &[u8]) -> CeRead
         next: o1,
     } = read::num_field(s, 0, b"{\"term\":")
     else {
-        return no_ce(9);
+        return no_ce(refusals::BAD_PACKET);
     };
     let PhaseRead::Got {
         phase: phase,
         next: o2,
     } = read::phase_field(s, o1, b",\"phase\":")
     else {
-        return no_ce(9);
+        return no_ce(refusals::BAD_PACKET);
     };
     let d = read::data_field(s, o2, b",\"proposal_data\":");
     if !d.ok {
-        return no_ce(9);
+        return no_ce(refusals::BAD_PACKET);
     }
     let proposal_data = d.found;
     let BitmapRead::Got {
@@ -130,10 +132,10 @@ fn read_ce(s: &[u8]) -> CeRead
         next: o4,
     } = read::bitmap_field(s, d.next, b",\"flags_bitmap\":")
     else {
-        return no_ce(9);
+        return no_ce(refusals::BAD_PACKET);
     };
     if !read::ends_at(s, o4) {
-        return no_ce(9);
+        return no_ce(refusals::BAD_PACKET);
     }
     let packet = CeTwoPcPacket {
         term,
@@ -149,7 +151,7 @@ pub fn read_ce_packet(s: &[u8], len: usize) -> CeRead
     ensures { λ r. ⌜ r ≡ ceRead (now (s .entry)) len ⌝ }
 {
     if len > s.len() {
-        return no_ce(10);
+        return no_ce(refusals::NO_FIT);
     }
     read_ce(&s[..len])
 }

@@ -16,9 +16,11 @@ use crate::read::NumRead;
 use crate::read::PhaseRead;
 use crate::read::StateRead;
 use crate::read::TxRead;
+use limits::refusals;
 ghost use mathlib.Core.Path.{_≡_};
 ghost use Prim.Native.Nat.{_≤_};
 ghost use lib.ListN.{length};
+ghost use Rattle.limits.specs.Limits.{bitmapEntries, dataBytes};
 ghost use Rattle.texts.specs.Put.{Put, Room};
 ghost use Rattle.packets.specs.Packets.{pipelineText, pipelineWithin};
 ghost use Rattle.packets.specs.Writing.{textLen, wroteOf, leftOf};
@@ -26,7 +28,7 @@ ghost use Rattle.packets.specs.Reading.{pipelineNo, pipelineReadOf, pipe
 
 // The names, braces, commas and colons are 137 bytes.
 fn pipeline_len(p: TwoPcPacket) -> usize
-    requires { ⌜ (p .«flags_bitmap» .len ≤ 64) × (p .«transaction_data» .len ≤ 32) ⌝ }
+    requires { ⌜ (p .«flags_bitmap» .len ≤ bitmapEntries) × (p .«transaction_data» .len ≤ dataBytes) ⌝ }
     ensures { λ r. ⌜ r ≡ length (pipelineText p) ⌝ }
 {
     let state = p.state;
@@ -57,7 +59,7 @@ pub fn pipeline_text_len(p: TwoPcPacket) -> usize
 }
 
 fn put_pipeline(buf: &mut [u8], at: usize, p: TwoPcPacket) -> usize
-    requires { ⌜ (p .«transaction_data» .len ≤ 32) × Room (now buf) at (pipelineText p) ⌝ }
+    requires { ⌜ (p .«transaction_data» .len ≤ dataBytes) × Room (now buf) at (pipelineText p) ⌝ }
     ensures { λ r. ⌜ Put (now (buf .entry)) at (pipelineText p) r (now (buf .exit)) ⌝ }
 {
     let state = p.state;
@@ -84,19 +86,19 @@ pub fn write_pipeline_packet(buf: &mut [u8], at: usize, p: TwoPcPacket) -> Wrote
 {
     if !len::within(p.flags_bitmap.len, p.transaction_data.len) {
         return Wrote {
-            refusal: 9,
+            refusal: refusals::BAD_PACKET,
             next: 0,
         };
     }
     if at > buf.len() {
         return Wrote {
-            refusal: 10,
+            refusal: refusals::NO_FIT,
             next: 0,
         };
     }
     if pipeline_len(p) > buf.len() - at {
         return Wrote {
-            refusal: 10,
+            refusal: refusals::NO_FIT,
             next: 0,
         };
     }
@@ -135,39 +137,39 @@ fn read_pipeline(s: &[u8]) -> PipelineRead
         next: o1,
     } = read::num_field(s, 0, b"{\"transaction_id\":")
     else {
-        return no_pipeline(9);
+        return no_pipeline(refusals::BAD_PACKET);
     };
     let PhaseRead::Got {
         phase: state,
         next: o2,
     } = read::phase_field(s, o1, b",\"state\":")
     else {
-        return no_pipeline(9);
+        return no_pipeline(refusals::BAD_PACKET);
     };
     let BitmapRead::Got {
         bitmap: flags_bitmap,
         next: o3,
     } = read::bitmap_field(s, o2, b",\"flags_bitmap\":")
     else {
-        return no_pipeline(9);
+        return no_pipeline(refusals::BAD_PACKET);
     };
     let BoolRead::Got {
         value: abort_flag,
         next: o4,
     } = read::bool_field(s, o3, b",\"abort_flag\":")
     else {
-        return no_pipeline(9);
+        return no_pipeline(refusals::BAD_PACKET);
     };
     let NumRead::Got {
         value: nack_tx_id,
         next: o5,
     } = read::num_field(s, o4, b",\"nack_tx_id\":")
     else {
-        return no_pipeline(9);
+        return no_pipeline(refusals::BAD_PACKET);
     };
     let d = read::data_field(s, o5, b",\"transaction_data\":");
     if !d.ok {
-        return no_pipeline(9);
+        return no_pipeline(refusals::BAD_PACKET);
     }
     let transaction_data = d.found;
     let NumRead::Got {
@@ -175,24 +177,24 @@ fn read_pipeline(s: &[u8]) -> PipelineRead
         next: o7,
     } = read::num_field(s, d.next, b",\"sender\":")
     else {
-        return no_pipeline(9);
+        return no_pipeline(refusals::BAD_PACKET);
     };
     let TxRead::Got {
         tx: piggyback_tx,
         next: o8,
     } = read::tx_field(s, o7, b",\"piggyback_tx\":")
     else {
-        return no_pipeline(9);
+        return no_pipeline(refusals::BAD_PACKET);
     };
     let StateRead::Got {
         state: piggyback_state,
         next: o9,
     } = read::state_field(s, o8, b",\"piggyback_state\":")
     else {
-        return no_pipeline(9);
+        return no_pipeline(refusals::BAD_PACKET);
     };
     if !read::ends_at(s, o9) {
-        return no_pipeline(9);
+        return no_pipeline(refusals::BAD_PACKET);
     }
     let packet = TwoPcPacket {
         transaction_id,
@@ -213,7 +215,7 @@ pub fn read_pipeline_packet(s: &[u8], len: usize) -> PipelineRead
     ensures { λ r. ⌜ r ≡ pipelineRead (now (s .entry)) len ⌝ }
 {
     if len > s.len() {
-        return no_pipeline(10);
+        return no_pipeline(refusals::NO_FIT);
     }
     read_pipeline(&s[..len])
 }

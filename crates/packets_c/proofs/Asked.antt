@@ -6,6 +6,7 @@ use mathlib.Core.List.{List}
 use Prim.Native.Nat.{ℕ, _≤_, _<_}
 use lib.Dec.{eqb}
 use borrow.Author.Tests.{eq-eqb, ne-eqb, le-leb, lt-leb}
+use Rattle.limits.specs.Refusals.{noFit}
 use Rattle.texts.specs.Put.{written, Put}
 use Rattle.packets.specs.Reading.{ceNo, ceRead, pipelineNo, pipelineRead}
 use Rattle.packets.specs.Writing.{refused, wroteOf, leftOf}
@@ -30,11 +31,11 @@ pub told-yes : {ρ : ℕ} {vs ds n d : List ℕ} {r : ℕ} {n′ : List ℕ} {q 
 told-yes e p q = (sym e, (handed-put e p, handed-put e q))
 
 module _ (text : List ℕ) (len n b : ℕ) where
-  pub ce-few : n < 5 → 10 ≡ ceTold text len n b .refusal
+  pub ce-few : n < 5 → noFit ≡ ceTold text len n b .refusal
   unfolding ceTold ceNo
   ce-few h = rw (lt-leb 5 n h)
 
-  pub ce-short-bytes : 5 ≤ n → b < 32 → 10 ≡ ceTold text len n b .refusal
+  pub ce-short-bytes : 5 ≤ n → b < 32 → noFit ≡ ceTold text len n b .refusal
   unfolding ceTold ceNo
   ce-short-bytes h k = rw (le-leb 5 n h, lt-leb 32 b k)
 
@@ -43,11 +44,11 @@ module _ (text : List ℕ) (len n b : ℕ) where
   ce-as-read h k = rw (le-leb 5 n h, le-leb 32 b k)
 
 module _ (text : List ℕ) (len n b : ℕ) where
-  pub pipeline-few : n < 12 → 10 ≡ pipelineTold text len n b .refusal
+  pub pipeline-few : n < 12 → noFit ≡ pipelineTold text len n b .refusal
   unfolding pipelineTold pipelineNo
   pipeline-few h = rw (lt-leb 12 n h)
 
-  pub pipeline-short-bytes : 12 ≤ n → b < 32 → 10 ≡ pipelineTold text len n b .refusal
+  pub pipeline-short-bytes : 12 ≤ n → b < 32 → noFit ≡ pipelineTold text len n b .refusal
   unfolding pipelineTold pipelineNo
   pipeline-short-bytes h k = rw (le-leb 12 n h, lt-leb 32 b k)
 

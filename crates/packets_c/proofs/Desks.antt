@@ -8,6 +8,7 @@ use native.Mathlib.Omega.{arith}
 use lib.Dec.{eqb, leb}
 use lib.ListN.{length}
 use borrow.Author.Tests.{eq-eqb, ne-eqb}
+use Rattle.limits.specs.Refusals.{noFit}
 use Rattle.loops.specs.Pick.{either}
 use Rattle.texts.specs.Put.{written}
 use Rattle.packets.specs.Packets.{ceText, ceWithin}
@@ -97,7 +98,7 @@ left-refused : (fine : Bool) (t d : List ℕ) (at : ℕ) → (wroteOf fine t d a
 unfolding wroteOf leftOf
 left-refused true t d at h = fits (leb (at + length t) (length d)) h
   where
-    fits : (b : Bool) → (either {A = Wrote} b (record { refusal = 0; next = at + length t }) (record { refusal = 10; next = 0 }) .refusal ≡ 0 → ⊥) → either b (written d at t) d ≡ d
+    fits : (b : Bool) → (either {A = Wrote} b (record { refusal = 0; next = at + length t }) (record { refusal = noFit; next = 0 }) .refusal ≡ 0 → ⊥) → either b (written d at t) d ≡ d
     fits true q = absurd (q refl)
     fits false q = refl
 left-refused false t d at h = refl

@@ -10,6 +10,7 @@ use lib.Dec.{leb, ltb, eqb}
 use lib.ListN.{length, take, drop}
 use lib.Seq.{take-at}
 use borrow.Author.Tests.{le-leb, leb-true, eq-eqb, ne-eqb, eqb-true, eqb-false}
+use Rattle.limits.specs.Refusals.{badPositions, noPosition, noFit}
 use Rattle.loops.specs.Pick.{either}
 use Rattle.marks.specs.Sets.{and-true, true-and}
 use Rattle.texts.specs.Put.{written, length-written}
@@ -32,19 +33,20 @@ use Rattle.merges.specs.declared.merging.Payload.{Payload}
 use Rattle.merges.specs.declared.merging.Merged.{Merged}
 use Rattle.packets.proofs.Promises.{ce-promises}
 use Rattle.merges.proofs.Safety.{either-cases}
-use Rattle.merges.proofs.Growth.{redundant-keeps}
+use Rattle.merges.proofs.Growth.{told-apart, redundant-keeps}
 use Rattle.merges.proofs.Limits.{merges-valid}
+
+-- it is a refusal
+no-fit : _≡_ {A = ℕ} noFit 0 → ⊥
+no-fit k = omega arith
 
 -- ---- what is read is valid
 given-valid : (s : List ℕ) (len : ℕ) → ceRead s len .refusal ≡ 0 → ValidCe (ceRead s len .packet)
 unfolding ceRead ceNo
 given-valid s len =
-    either-cases (λ (r : CeRead). r .refusal ≡ 0 → ValidCe (r .packet)) (leb len (length s)) {x = ceReadOf (take len s)} {y = ceNo 10}
+    either-cases (λ (r : CeRead). r .refusal ≡ 0 → ValidCe (r .packet)) (leb len (length s)) {x = ceReadOf (take len s)} {y = ceNo noFit}
     (λ x k. ce-promises .given (take len s) k .1)
-    (λ x k. absurd (ten k))
-  where
-    ten : _≡_ {A = ℕ} 10 0 → ⊥
-    ten k = omega arith
+    (λ x k. absurd (no-fit k))
 
 read-valid : (len : ℕ) (r : CeRead) → (r .refusal ≡ 0 → ValidCe (r .packet)) → ValidHeld (readAs len r)
 read-valid len r h = by (eqb len 0) (eqb (r .refusal) 0) refl
@@ -61,9 +63,6 @@ payload-valid s len = read-valid len (ceRead s len) (given-valid s len)
 -- ---- what is news is a packet
 abbrev NewsHeld : Merged → Type 0
 NewsHeld m = m .result ≡ NewInfo → m .payload .held ≡ Packet
-
-told-apart : {A : Type 0} → Redundant ≡ NewInfo → A
-told-apart e = absurd (let z : _≡_ {A = ℕ} 0 1 = cc in omega arith)
 
 heard-held : (nay : Noes) (n v : ℕ) (l : Payload) (p : CeTwoPcPacket) (h : Held) → NewsHeld (heardOf nay n v l p h)
 unfolding heardOf
@@ -91,7 +90,7 @@ within : (p : CeTwoPcPacket) → ValidCe p → ceWithin p ≡ true
 unfolding limits
 within p s =
     true-and (leb (p .«flags_bitmap» .len) 64) (leb (p .«proposal_data» .len) 32)
-    (le-leb (p .«flags_bitmap» .len) 64 (s .bitmap .atMost64)) (le-leb (p .«proposal_data» .len) 32 (s .bytes .atMost64))
+    (le-leb (p .«flags_bitmap» .len) 64 (s .bitmap .atMost64)) (le-leb (p .«proposal_data» .len) 32 (s .bytes .atMost32))
 
 some-text : (p : CeTwoPcPacket) → length (ceText p) ≡ 0 → ⊥
 unfolding ceText
@@ -119,16 +118,16 @@ module _ (p : CeTwoPcPacket) (s : ValidCe p) (local : List ℕ) (len was : ℕ) 
   Follows d = d .refusal ≡ 0 → payloadOf (d .text) (d .len) ≡ record { held = Packet; packet = p }
 
   abbrev Ends : Desk → Type 0
-  Ends d = (d .refusal ≡ 0) ⊎ ((d .refusal ≡ 2) ⊎ ((d .refusal ≡ 8) ⊎ (d .refusal ≡ 10)))
+  Ends d = (d .refusal ≡ 0) ⊎ ((d .refusal ≡ badPositions) ⊎ ((d .refusal ≡ noPosition) ⊎ (d .refusal ≡ noFit)))
 
   -- the writer's answer, by whether the text fits
   abbrev Made : Bool → Desk
   Made b =
       record {
-        refusal = either {A = Wrote} b (record { refusal = 0; next = 0 + length (ceText p) }) (record { refusal = 10; next = 0 }) .refusal;
+        refusal = either {A = Wrote} b (record { refusal = 0; next = 0 + length (ceText p) }) (record { refusal = noFit; next = 0 }) .refusal;
         text = either b (written local 0 (ceText p)) local;
-        len = either (eqb (either {A = Wrote} b (record { refusal = 0; next = 0 + length (ceText p) }) (record { refusal = 10; next = 0 }) .refusal) 0) (either {A = Wrote} b (record { refusal = 0; next = 0 + length (ceText p) }) (record { refusal = 10; next = 0 }) .next) len;
-        news = either (eqb (either {A = Wrote} b (record { refusal = 0; next = 0 + length (ceText p) }) (record { refusal = 10; next = 0 }) .refusal) 0) 1 was;
+        len = either (eqb (either {A = Wrote} b (record { refusal = 0; next = 0 + length (ceText p) }) (record { refusal = noFit; next = 0 }) .refusal) 0) (either {A = Wrote} b (record { refusal = 0; next = 0 + length (ceText p) }) (record { refusal = noFit; next = 0 }) .next) len;
+        news = either (eqb (either {A = Wrote} b (record { refusal = 0; next = 0 + length (ceText p) }) (record { refusal = noFit; next = 0 }) .refusal) 0) 1 was;
       }
 
   rewritten-made : rewritten local len was p ≡ Made (leb (0 + length (ceText p)) (length local))
@@ -137,10 +136,7 @@ module _ (p : CeTwoPcPacket) (s : ValidCe p) (local : List ℕ) (len was : ℕ) 
 
   made-follows : (b : Bool) → leb (0 + length (ceText p)) (length local) ≡ b → Follows (Made b)
   made-follows true e = λ k. reread p s local (leb-true (0 + length (ceText p)) (length local) e)
-  made-follows false e = λ k. absurd (ten k)
-    where
-      ten : _≡_ {A = ℕ} 10 0 → ⊥
-      ten k = omega arith
+  made-follows false e = λ k. absurd (no-fit k)
 
   made-ends : (b : Bool) → Ends (Made b)
   made-ends true = inl refl
@@ -154,7 +150,7 @@ module _ (p : CeTwoPcPacket) (s : ValidCe p) (local : List ℕ) (len was : ℕ) 
 
 -- the refusal by its four tests
 abbrev tested : Bool → Bool → Bool → Bool → ℕ
-tested a b c d = either a (either b (either c (either d 0 10) 10) 8) 2
+tested a b c d = either a (either b (either c (either d 0 noFit) noFit) noPosition) badPositions
 
 -- an allowed call has at most 64 positions
 allowed : (n v cap len rcap rlen : ℕ) → refusalOf n v cap len rcap rlen ≡ 0 → n ≤ 64
@@ -182,8 +178,8 @@ module _ (s : Voting) (v : ℕ) (local : List ℕ) (len : ℕ) (received : List 
 
   answered-ends : s .n ≤ 64 → (r : MergeResult) → merged .result ≡ r
       → (answered local len was (merged .payload .packet) r .refusal ≡ 0)
-      ⊎ ((answered local len was (merged .payload .packet) r .refusal ≡ 2)
-      ⊎ ((answered local len was (merged .payload .packet) r .refusal ≡ 8) ⊎ (answered local len was (merged .payload .packet) r .refusal ≡ 10)))
+      ⊎ ((answered local len was (merged .payload .packet) r .refusal ≡ badPositions)
+      ⊎ ((answered local len was (merged .payload .packet) r .refusal ≡ noPosition) ⊎ (answered local len was (merged .payload .packet) r .refusal ≡ noFit)))
   unfolding answered
   answered-ends h Redundant e = inl refl
   answered-ends h NewInfo e = rewritten-ends (merged .payload .packet) (valid-news h e) local len was
@@ -197,12 +193,12 @@ texts-follow s v local len received rlen was =
     (λ x e. absurd (eqb-false k 0 x e))
 
 refusal-ends : (n v cap len rcap rlen : ℕ)
-    → (refusalOf n v cap len rcap rlen ≡ 0) ⊎ ((refusalOf n v cap len rcap rlen ≡ 2) ⊎ ((refusalOf n v cap len rcap rlen ≡ 8) ⊎ (refusalOf n v cap len rcap rlen ≡ 10)))
+    → (refusalOf n v cap len rcap rlen ≡ 0) ⊎ ((refusalOf n v cap len rcap rlen ≡ badPositions) ⊎ ((refusalOf n v cap len rcap rlen ≡ noPosition) ⊎ (refusalOf n v cap len rcap rlen ≡ noFit)))
 unfolding refusalOf
 refusal-ends n v cap len rcap rlen = go (ltb 0 n && leb n 64) (ltb v n) (leb len cap) (leb rlen rcap)
   where
     go : (a b c d : Bool)
-        → (tested a b c d ≡ 0) ⊎ ((tested a b c d ≡ 2) ⊎ ((tested a b c d ≡ 8) ⊎ (tested a b c d ≡ 10)))
+        → (tested a b c d ≡ 0) ⊎ ((tested a b c d ≡ badPositions) ⊎ ((tested a b c d ≡ noPosition) ⊎ (tested a b c d ≡ noFit)))
     go false b c d = inr (inl refl)
     go true false c d = inr (inr (inl refl))
     go true true false d = inr (inr (inr refl))
@@ -213,6 +209,6 @@ pub refusals : Refusals
 unfolding deskOf
 refusals s v local len received rlen was =
     let k = refusalOf (s .n) v (length local) len (length received) rlen in
-    either-cases (λ (d : Desk). (d .refusal ≡ 0) ⊎ ((d .refusal ≡ 2) ⊎ ((d .refusal ≡ 8) ⊎ (d .refusal ≡ 10)))) (eqb k 0)
+    either-cases (λ (d : Desk). (d .refusal ≡ 0) ⊎ ((d .refusal ≡ badPositions) ⊎ ((d .refusal ≡ noPosition) ⊎ (d .refusal ≡ noFit)))) (eqb k 0)
     (λ x. answered-ends s v local len received rlen was (allowed (s .n) v (length local) len (length received) rlen (eqb-true k 0 x)) (merged s v local len received rlen was .result) refl)
     (λ x. refusal-ends (s .n) v (length local) len (length received) rlen)

@@ -6,6 +6,8 @@ use Prim.Native.Nat.{ℕ, _+_}
 use lib.Dec.{leb, eqb}
 use lib.ListN.{length, take, getD, replicate}
 use mir.Val.{boolByte}
+use Rattle.limits.specs.Limits.{dataBytes}
+use Rattle.limits.specs.Refusals.{badPacket, noFit}
 use Rattle.loops.specs.Pick.{either}
 use Rattle.texts.specs.Put.{written}
 use Rattle.packets.specs.Packets.{limits, ceText, pipelineText, ceWithin, pipelineWithin}
@@ -70,10 +72,14 @@ pipelineNumbers p =
 
 -- ---- reading: 10 if a slice is shorter than what is handed out or than the stated length, else as the reader answers
 unfoldable pub ceTold : List ℕ → ℕ → ℕ → ℕ → CeRead
-ceTold text len numbers bytes = either (leb 5 numbers) (either (leb 32 bytes) (ceRead text len) (ceNo 10)) (ceNo 10)
+ceTold text len numbers bytes =
+    either (leb 5 numbers) (either (leb dataBytes bytes) (ceRead text len) (ceNo noFit)) (ceNo noFit)
 
 unfoldable pub pipelineTold : List ℕ → ℕ → ℕ → ℕ → PipelineRead
-pipelineTold text len numbers bytes = either (leb 12 numbers) (either (leb 32 bytes) (pipelineRead text len) (pipelineNo 10)) (pipelineNo 10)
+pipelineTold text len numbers bytes =
+    either (leb 12 numbers)
+    (either (leb dataBytes bytes) (pipelineRead text len) (pipelineNo noFit))
+    (pipelineNo noFit)
 
 -- a lent slice afterwards: what is handed out from its first place on, and all else, or on a refusal everything, as it was
 unfoldable pub handed : ℕ → List ℕ → List ℕ → List ℕ
@@ -96,9 +102,11 @@ unfoldable pub ceAsked : List ℕ → List ℕ → CeRead
 ceAsked m bytes =
     either (leb 5 (length m))
     (either (leb (getD m 2 0) (length bytes))
-    (either (leb (getD m 1 0) 2 && limits (getD m 3 0) (getD m 2 0)) (ceYes (ceNumbered m (dataAsked bytes (getD m 2 0)))) (ceNo 9))
-    (ceNo 10))
-    (ceNo 10)
+    (either (leb (getD m 1 0) 2 && limits (getD m 3 0) (getD m 2 0))
+    (ceYes (ceNumbered m (dataAsked bytes (getD m 2 0))))
+    (ceNo badPacket))
+    (ceNo noFit))
+    (ceNo noFit)
 
 abbrev pub pipelineNumbered : List ℕ → Data → TwoPcPacket
 pipelineNumbered m d =
@@ -123,9 +131,11 @@ unfoldable pub pipelineAsked : List ℕ → List ℕ → PipelineRead
 pipelineAsked m bytes =
     either (leb 12 (length m))
     (either (leb (getD m 6 0) (length bytes))
-    (either (pipelineFits m && limits (getD m 2 0) (getD m 6 0)) (pipelineYes (pipelineNumbered m (dataAsked bytes (getD m 6 0)))) (pipelineNo 9))
-    (pipelineNo 10))
-    (pipelineNo 10)
+    (either (pipelineFits m && limits (getD m 2 0) (getD m 6 0))
+    (pipelineYes (pipelineNumbered m (dataAsked bytes (getD m 6 0))))
+    (pipelineNo badPacket))
+    (pipelineNo noFit))
+    (pipelineNo noFit)
 
 -- the answer and the buffer, for a packet that was asked for with this refusal, limits and text
 unfoldable pub askedWrote : ℕ → Bool → List ℕ → List ℕ → ℕ → Wrote

@@ -8,6 +8,8 @@ use Prim.Native.Nat.{ℕ}
 use lib.Dec.{leb, ltb, eqb}
 use lib.Ieee.{Float}
 use lib.ListN.{length}
+use Rattle.limits.specs.Limits.{positions, lastTerm}
+use Rattle.limits.specs.Refusals.{badPositions, noPosition, noFit, noTerm}
 use Rattle.loops.specs.Pick.{either}
 use Rattle.packets.specs.Packets.{ceText, ceWithin}
 use Rattle.packets.specs.Reading.{ceRead}
@@ -28,7 +30,9 @@ use Rattle.merges.specs.declared.merging.Merged.{Merged}
 -- 2 for n outside 1 to 64, then 8 for a position that is none of them, then 10 for a stated length over its buffer; 0 for none
 unfoldable pub refusalOf : ℕ → ℕ → ℕ → ℕ → ℕ → ℕ → ℕ
 refusalOf n v cap len rcap rlen =
-    either (ltb 0 n && leb n 64) (either (ltb v n) (either (leb len cap) (either (leb rlen rcap) 0 10) 10) 8) 2
+    either (ltb 0 n && leb n positions)
+    (either (ltb v n) (either (leb len cap) (either (leb rlen rcap) 0 noFit) noFit) noPosition)
+    badPositions
 
 -- all that a call hands back: the refusal, and the local buffer, its stated length and the number that says whether there was news, as they are afterwards
 pub record Desk : Type 0 where
@@ -69,7 +73,8 @@ deskOf s v local len received rlen was =
 
 -- 2 and 8 as above, then 13 where no term follows
 unfoldable pub proposeRefusal : ℕ → ℕ → ℕ → ℕ
-proposeRefusal n v t = either (ltb 0 n && leb n 64) (either (ltb v n) (either (eqb t 18446744073709551615) 13 0) 8) 2
+proposeRefusal n v t =
+    either (ltb 0 n && leb n positions) (either (ltb v n) (either (eqb t lastTerm) noTerm 0) noPosition) badPositions
 
 -- the packet of the term after t, by position v, as the writer answers at the start of a buffer, and what it leaves there
 unfoldable pub proposedOf : Voting → ℕ → ℕ → List ℕ → Wrote
@@ -108,5 +113,5 @@ abbrev pub Refusals : Type 0
 Refusals =
     (s : Voting) (v : ℕ) (local : List ℕ) (len : ℕ) (received : List ℕ) (rlen was : ℕ)
     → (deskOf s v local len received rlen was .refusal ≡ 0)
-    ⊎ ((deskOf s v local len received rlen was .refusal ≡ 2)
-    ⊎ ((deskOf s v local len received rlen was .refusal ≡ 8) ⊎ (deskOf s v local len received rlen was .refusal ≡ 10)))
+    ⊎ ((deskOf s v local len received rlen was .refusal ≡ badPositions)
+    ⊎ ((deskOf s v local len received rlen was .refusal ≡ noPosition) ⊎ (deskOf s v local len received rlen was .refusal ≡ noFit)))

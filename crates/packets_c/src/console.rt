@@ -1,4 +1,5 @@
 // The entries for C: a packet is numbers and bytes in lent slices, the answer is the refusal, 0 for none. A refused call writes nothing.
+use limits::refusals;
 use packets::Bitmap;
 use packets::CeRead;
 use packets::CeTwoPcPacket;
@@ -15,6 +16,7 @@ ghost use mathlib.Core.Path.{_≡_};
 ghost use mathlib.Core.List.{List, [], _∷_};
 ghost use Prim.Native.Nat.{ℕ, _≤_, _<_};
 ghost use lib.ListN.{length, take, replicate};
+ghost use Rattle.limits.specs.Limits.{dataBytes};
 ghost use Rattle.texts.specs.Put.{written, Put, Room};
 ghost use Rattle.packets_c.specs.Console.{phaseNumber, phaseNumbered, txThere, txNumber, txNumbered, stateThere, stateNumber, stateNumbered, ceNumbers, pipelineNumbers, ceTold, pipelineTold, handed, ceAsked, pipelineFits, pipelineNumbered, pipelineAsked, ceWrote, ceLeft, pipelineWrote, pipelineLeft, nextOf};
 
@@ -178,7 +180,7 @@ fn put_bytes(out: &mut [u8], at: usize, src: &[u8]) -> usize
 
 // All 32 bytes.
 fn put_kept(out: &mut [u8], d: Data) -> usize
-    requires { ⌜ 32 ≤ length (now out) ⌝ }
+    requires { ⌜ dataBytes ≤ length (now out) ⌝ }
     ensures { λ r. ⌜ Put (now (out .entry)) 0 (d .bytes) r (now (out .exit)) ⌝ }
 {
     let kept = d.bytes;
@@ -187,7 +189,7 @@ fn put_kept(out: &mut [u8], d: Data) -> usize
 
 // The first len bytes in an array, with zeros behind them.
 fn filled(bytes: &[u8], len: usize) -> [u8; 32]
-    requires { ⌜ (len ≤ 32) × (len ≤ length (now bytes)) ⌝ }
+    requires { ⌜ (len ≤ dataBytes) × (len ≤ length (now bytes)) ⌝ }
     ensures { λ r. ⌜ r ≡ written (replicate 32 0) 0 (take len (now (bytes .entry))) ⌝ }
 {
     let mut d = [0u8; 32];
@@ -203,18 +205,18 @@ fn ce_asked(numbers: &[u64], bytes: &[u8]) -> CeRead
     ensures { λ r. ⌜ r ≡ ceAsked (now (numbers .entry)) (now (bytes .entry)) ⌝ }
 {
     if numbers.len() < 5 {
-        return two_pc_ce::no_ce(10);
+        return two_pc_ce::no_ce(refusals::NO_FIT);
     }
     let bytes_len = numbers[2] as usize;
     if bytes_len > bytes.len() {
-        return two_pc_ce::no_ce(10);
+        return two_pc_ce::no_ce(refusals::NO_FIT);
     }
     let entries = numbers[3] as usize;
     if numbers[1] > 2 {
-        return two_pc_ce::no_ce(9);
+        return two_pc_ce::no_ce(refusals::BAD_PACKET);
     }
     if !len::within(entries, bytes_len) {
-        return two_pc_ce::no_ce(9);
+        return two_pc_ce::no_ce(refusals::BAD_PACKET);
     }
     let kept = filled(bytes, bytes_len);
     let proposal_data = Data {
@@ -287,18 +289,18 @@ fn pipeline_asked(numbers: &[u64], bytes: &[u8]) -> PipelineRead
     ensures { λ r. ⌜ r ≡ pipelineAsked (now (numbers .entry)) (now (bytes .entry)) ⌝ }
 {
     if numbers.len() < 12 {
-        return two_pc_pipeline::no_pipeline(10);
+        return two_pc_pipeline::no_pipeline(refusals::NO_FIT);
     }
     let bytes_len = numbers[6] as usize;
     if bytes_len > bytes.len() {
-        return two_pc_pipeline::no_pipeline(10);
+        return two_pc_pipeline::no_pipeline(refusals::NO_FIT);
     }
     if !pipeline_fits(numbers) {
-        return two_pc_pipeline::no_pipeline(9);
+        return two_pc_pipeline::no_pipeline(refusals::BAD_PACKET);
     }
     let entries = numbers[2] as usize;
     if !len::within(entries, bytes_len) {
-        return two_pc_pipeline::no_pipeline(9);
+        return two_pc_pipeline::no_pipeline(refusals::BAD_PACKET);
     }
     let kept = filled(bytes, bytes_len);
     let transaction_data = Data {
@@ -322,10 +324,10 @@ pub extern "C" fn ce_packet_read(
     ensures { λ _. ⌜ now (bytes .exit) ≡ handed (ceTold (now (text .entry)) «text_len» (length (now (numbers .entry))) (length (now (bytes .entry))) .refusal) (ceTold (now (text .entry)) «text_len» (length (now (numbers .entry))) (length (now (bytes .entry))) .packet .«proposal_data» .bytes) (now (bytes .entry)) ⌝ }
 {
     if numbers.len() < 5 {
-        return 10;
+        return refusals::NO_FIT;
     }
-    if bytes.len() < 32 {
-        return 10;
+    if bytes.len() < limits::DATA {
+        return refusals::NO_FIT;
     }
     let r = two_pc_ce::read_ce_packet(text, text_len as usize);
     if r.refusal != 0 {
@@ -378,10 +380,10 @@ pub extern "C" fn pipeline_packet_read(
     ensures { λ _. ⌜ now (bytes .exit) ≡ handed (pipelineTold (now (text .entry)) «text_len» (length (now (numbers .entry))) (length (now (bytes .entry))) .refusal) (pipelineTold (now (text .entry)) «text_len» (length (now (numbers .entry))) (length (now (bytes .entry))) .packet .«transaction_data» .bytes) (now (bytes .entry)) ⌝ }
 {
     if numbers.len() < 12 {
-        return 10;
+        return refusals::NO_FIT;
     }
-    if bytes.len() < 32 {
-        return 10;
+    if bytes.len() < limits::DATA {
+        return refusals::NO_FIT;
     }
     let r = two_pc_pipeline::read_pipeline_packet(text, text_len as usize);
     if r.refusal != 0 {

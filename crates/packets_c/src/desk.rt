@@ -1,4 +1,5 @@
 // The merge on lent texts, for the C console.
+use limits::refusals;
 use merges::merging;
 use merges::merging::Held;
 use merges::merging::MergeResult;
@@ -41,19 +42,19 @@ fn merge_refusal(n: usize, node_id: usize, cap: usize, len: usize, rcap: usize, 
     ensures { λ r. ⌜ r ≡ refusalOf n «node_id» cap len rcap rlen ⌝ }
 {
     if n == 0 {
-        return 2;
+        return refusals::BAD_POSITIONS;
     }
-    if n > 64 {
-        return 2;
+    if n > limits::POSITIONS {
+        return refusals::BAD_POSITIONS;
     }
     if node_id >= n {
-        return 8;
+        return refusals::NO_POSITION;
     }
     if len > cap {
-        return 10;
+        return refusals::NO_FIT;
     }
     if rlen > rcap {
-        return 10;
+        return refusals::NO_FIT;
     }
     0
 }
@@ -130,16 +131,16 @@ fn propose_refusal(n: usize, initiator: usize, term: u64) -> u64
     ensures { λ r. ⌜ r ≡ proposeRefusal n initiator term ⌝ }
 {
     if n == 0 {
-        return 2;
+        return refusals::BAD_POSITIONS;
     }
-    if n > 64 {
-        return 2;
+    if n > limits::POSITIONS {
+        return refusals::BAD_POSITIONS;
     }
     if initiator >= n {
-        return 8;
+        return refusals::NO_POSITION;
     }
-    if term == 18446744073709551615 {
-        return 13;
+    if term == limits::LAST_TERM {
+        return refusals::NO_TERM;
     }
     0
 }

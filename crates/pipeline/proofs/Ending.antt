@@ -1,20 +1,24 @@
--- Document 01, "Identical flood and pipeline round": a room of t transactions accepts at most t + 1002 rounds, since the round in which it stops is the last
--- one. Assumes nothing.
+-- Document 01, "Identical flood and pipeline round": a room of t transactions accepts at most t + 1002 rounds, since
+-- the round in which it stops is the last one. Assumes nothing.
 use mathlib.Core.Bool.{Bool, true, false, _&&_, _||_}
 use mathlib.Core.List.{List}
 use mathlib.Core.Path.{_≡_, refl, subst}
-use Prim.Native.Nat.{ℕ, _+_, _≤_, _%_, _^_}
+use Prim.Native.Nat.{ℕ, _+_, _/_, _≤_}
 use native.Mathlib.Omega.{arith}
+use lib.ListN.{length}
 use lib.Dec.{eqb, ltb, leb}
-use borrow.Author.Tests.{ltb-false}
+use borrow.Author.Tests.{eqb-true, ltb-false}
 use Rattle.loops.specs.Pick.{either}
+use Rattle.limits.specs.Limits.{positions}
+use Rattle.limits.specs.Refusals.{badPositions, stopped}
 use Rattle.pipeline.specs.Pipeline.{stopsAt}
-use Rattle.pipeline.specs.Round.{nextRound, closeRound, runRound, earlyOf, earlyRefusal, lateRefusal, startDraw, refusedWith, acceptedWith, lateAnswer, roundAnswer}
+use Rattle.pipeline.specs.Round.{sizeOf, nextRound, closeRound, runRound, rowsOfRound, earlyRefusal, startDraw, roundRefusal, refusedWith, acceptedWith, roundAnswer}
 use Rattle.pipeline.specs.declared.pipeline.PipelineConf.{PipelineConf}
-use Rattle.pipeline.specs.declared.pipeline.Pipeline.{Pipeline}
+use Rattle.pipeline.specs.declared.pipeline.PipelinePart.{PipelinePart}
 use Rattle.pipeline.specs.declared.pipeline.RoundRun.{RoundRun}
-use Rattle.pipeline.specs.declared.pipeline.RoundAnswer.{RoundAnswer}
+use Rattle.engines.specs.declared.network.Network.{Network}
 use Rattle.engines.specs.declared.words.Draw.{Draw}
+use Rattle.pipeline.proofs.Rounding.{refusal-none}
 
 -- k rounds were accepted: the room has stopped, or its round number is k
 abbrev pub Spent : ℕ → ℕ → Bool → ℕ → Type 0
@@ -49,41 +53,41 @@ closing t done counter r k s e l = by (stopsAt t done counter r) refl
         (omega (arith, g, s, e), omega (arith, g, s))
 
 -- a room that has stopped is refused
-going : (n bound len slot : ℕ) (stop : Bool) → eqb (earlyOf n bound len slot stop) 0 ≡ true → stop ≡ false
-unfolding earlyOf
-going n bound len slot true h = by (eqb n 0 || ltb 64 n) h
+going : (conf : PipelineConf) (slot : ℕ) (stop : Bool) → earlyRefusal conf slot stop ≡ 0 → stop ≡ false
+unfolding earlyRefusal
+going conf slot true h = by (eqb (sizeOf conf) 0 || ltb positions (sizeOf conf)) h
   where
-    by : (b : Bool) → eqb (either b 2 14) 0 ≡ true → true ≡ false
-    by true q = absurd (let z : _≡_ {A = ℕ} 0 1 = cc in omega arith)
-    by false q = absurd (let z : _≡_ {A = ℕ} 0 1 = cc in omega arith)
-going n bound len slot false h = refl
+    by : (b : Bool) → _≡_ {A = ℕ} (either b badPositions stopped) 0 → true ≡ false
+    by true q = absurd (omega arith)
+    by false q = absurd (omega arith)
+going conf slot false h = refl
 
 -- one round, by how it closes
-run-spent : (ws : List ℕ) (conf : PipelineConf) (p : Pipeline) (d : Draw) (k : ℕ) → conf .txs ≤ 64 → k ≡ p .round → p .round ≤ conf .txs + 1001
-    → Spent (conf .txs) (k + 1) (runRound ws conf p d .pipe .stop) (runRound ws conf p d .pipe .round)
+run-spent : (ws : List ℕ) (conf : PipelineConf) (w : Network) (p : PipelinePart) (d : Draw) (k : ℕ) → conf .transactions ≤ 64 → k ≡ p .round → p .round ≤ conf .transactions + 1001
+    → Spent (conf .transactions) (k + 1) (runRound ws conf w p d .part .stop) (runRound ws conf w p d .part .round)
 unfolding runRound closeRound
-run-spent ws conf p d k s e l = closing (conf .txs) _ _ (p .round) k s e l
+run-spent ws conf w p d k s e l = closing (conf .transactions) _ _ (p .round) k s e l
 
 -- a call of a room, refused or not
-pub answer-spent : (ws : List ℕ) (numbers used : ℕ) (conf : PipelineConf) (p : Pipeline) (cursor k : ℕ) → conf .txs ≤ 64 → Spent (conf .txs) k (p .stop) (p .round)
-    → let a = roundAnswer ws numbers used conf p cursor in Spent (conf .txs) (k + accepted (a .refusal)) (a .pipe .stop) (a .pipe .round)
-unfolding roundAnswer lateAnswer
-answer-spent ws numbers used conf p cursor k s h = early (eqb (earlyRefusal conf p) 0) refl
+pub answer-spent : (ws : List ℕ) (numbers used : ℕ) (conf : PipelineConf) (w : Network) (p : PipelinePart) (cursor k : ℕ) → conf .transactions ≤ 64
+    → Spent (conf .transactions) k (p .stop) (p .round)
+    → let a = roundAnswer ws numbers used conf w p cursor in Spent (conf .transactions) (k + accepted (a .refusal)) (a .part .stop) (a .part .round)
+unfolding roundAnswer
+answer-spent ws numbers used conf w p cursor k s h = by (eqb refusal 0) refl
   where
+    t : ℕ
+    t = conf .transactions
+
+    refusal : ℕ
+    refusal = roundRefusal ws numbers used conf w p cursor
+
     x : RoundRun
-    x = runRound ws conf p (startDraw cursor)
+    x = runRound ws conf w p (startDraw cursor)
 
-    Kept : RoundAnswer → Type 0
-    Kept a = Spent (conf .txs) (k + accepted (a .refusal)) (a .pipe .stop) (a .pipe .round)
+    ran : p .stop ≡ false → Spent t (k + 1) (x .part .stop) (x .part .round)
+    ran g = let v : Spent t k false (p .round) = subst (λ (b : Bool). Spent t k b (p .round)) g h in run-spent ws conf w p (startDraw cursor) k s (v .0) (v .1)
 
-    ran : p .stop ≡ false → Spent (conf .txs) (k + 1) (x .pipe .stop) (x .pipe .round)
-    ran g = let w : Spent (conf .txs) k false (p .round) = subst (λ (b : Bool). Spent (conf .txs) k b (p .round)) g h in run-spent ws conf p (startDraw cursor) k s (w .0) (w .1)
-
-    late : p .stop ≡ false → (b : Bool) → eqb (lateRefusal numbers used x) 0 ≡ b → Kept (either b (acceptedWith used x) (refusedWith (lateRefusal numbers used x) p cursor used))
-    late g true e = ran g
-    late g false e = spent-refused (conf .txs) k (p .stop) (p .round) (lateRefusal numbers used x) e h
-
-    early : (b : Bool) → eqb (earlyRefusal conf p) 0 ≡ b
-        → Kept (either b (either (eqb (lateRefusal numbers used x) 0) (acceptedWith used x) (refusedWith (lateRefusal numbers used x) p cursor used)) (refusedWith (earlyRefusal conf p) p cursor used))
-    early true e = late (going (conf .n) (conf .bound) (conf .length) (p .slot) (p .stop) e) (eqb (lateRefusal numbers used x) 0) refl
-    early false e = spent-refused (conf .txs) k (p .stop) (p .round) (earlyRefusal conf p) e h
+    by : (b : Bool) → eqb refusal 0 ≡ b
+        → let a = either b (acceptedWith (used + length (rowsOfRound ws conf w p (startDraw cursor)) / 5) x) (refusedWith refusal w p cursor used) in Spent t (k + accepted (a .refusal)) (a .part .stop) (a .part .round)
+    by true e = ran (going conf (w .slot) (p .stop) (refusal-none ws numbers used conf w p cursor (eqb-true refusal 0 e) .0))
+    by false e = spent-refused t k (p .stop) (p .round) refusal e h

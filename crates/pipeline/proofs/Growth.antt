@@ -1,24 +1,21 @@
--- Document 01, demand 3's logs: whatever a round does, each log is the old log with something behind it. Assumes nothing.
-use Prim.Native.Nat.{ℕ, zero, suc, _+_, _≤_, _<_}
+-- Document 01, demand 3's logs: whatever a round does, each log is the old log with something behind it. Assumes
+-- nothing.
+use Prim.Native.Nat.{ℕ, _+_, _≤_, _<_}
 use mathlib.Core.Bool.{Bool, true, false, _&&_}
 use mathlib.Core.List.{List}
-use mathlib.Core.Path.{_≡_, refl, sym, ap, _∙_}
-use lib.Dec.{eqb, ltb}
-use lib.Ieee.{Float}
-use lib.ListN.{length, getD, set}
-use lib.Seq.{getD-set-same, getD-set-other}
+use mathlib.Core.Path.{_≡_, refl, _∙_}
+use lib.Dec.{ltb}
+use lib.ListN.{getD, set}
+use lib.Seq.{getD-set-other}
 use native.Mathlib.Omega.{arith}
 use Rattle.loops.specs.Pick.{either}
-use Rattle.loops.specs.Upto.{upto, upto-holds}
+use Rattle.loops.specs.Upto.{upto-holds}
 use Rattle.marks.specs.Marks.{has}
 use Rattle.engines.specs.Marked.{overMarks}
 use Rattle.pipeline.specs.Pending.{noEntry, loggedOf, pushed, finalizeTx, unanimousOf, openTx, mergeVotes, mergeAbort, isJudged, judgeAt, judged, abortAt, abortAll, ownVote}
-use Rattle.engines.specs.declared.words.Draw.{Draw}
 use Rattle.pipeline.specs.declared.two_pc_pipeline.LogEntry.{LogEntry}
 use Rattle.pipeline.specs.declared.two_pc_pipeline.TxLog.{TxLog}
 use Rattle.pipeline.specs.declared.two_pc_pipeline.NodeTwoPcState.{NodeTwoPcState}
-use Rattle.pipeline.specs.declared.two_pc_pipeline.Piggyback.{Piggyback}
-use Rattle.pipeline.specs.declared.two_pc_pipeline.Piggyback.the-variants.{Absent, Present}
 
 -- Every entry of a is still there in b, at its place, with its transaction and its outcome.
 pub record Grown (a b : TxLog) : Type 0 where

@@ -1,16 +1,11 @@
 pub mod Judging
 pub mod Joining
-pub mod Flooding
 pub mod Taking
 pub mod Recorded
-pub mod Sums
 pub mod Growth
 pub mod Shortage
-pub mod Quieting
 pub mod Rounding
-pub mod Logs
-pub mod Totals
+pub mod KeptLogs
 pub mod Ending
 pub mod PipelineCases
-pub mod Written
 pub mod Packing

@@ -2,7 +2,7 @@
 use Prim.Native.Nat.{ℕ, _≤_, _+_}
 use mathlib.Core.Bool.{Bool, true, false, _&&_}
 use mathlib.Core.List.{List}
-use mathlib.Core.Path.{_≡_, refl, sym, ap, ap₂, subst, _∙_}
+use mathlib.Core.Path.{_≡_, refl, sym, ap₂, subst}
 use lib.Dec.{ltb}
 use lib.ListN.{length, set}
 use lib.Seq.{set-out}
@@ -12,7 +12,7 @@ use Rattle.marks.specs.Marks.{has}
 use Rattle.pipeline.specs.Pending.{loggedOf, pushed}
 use Rattle.pipeline.specs.Pipeline.{recordTx, recordedIn}
 use Rattle.pipeline.specs.declared.two_pc_pipeline.TxLog.{TxLog}
-use Rattle.pipeline.specs.declared.two_pc_pipeline.Book.{Book}
+use Rattle.pipeline.specs.declared.two_pc_pipeline.Records.{Records}
 
 push-out : (t : ℕ) (o : Bool) (g : TxLog) → 64 ≤ t → pushed t o g ≡ g
 unfolding pushed
@@ -22,7 +22,7 @@ push-out t o g l = rw (le-ltb t 64 l) (by (ltb (g .len) 64))
     by true = refl
     by false = refl
 
-pub recorded-out : (t : ℕ) (o : Bool) (slot : ℕ) (b : Book) → length (b .ends) ≡ 64 → 64 ≤ t → recordTx t o slot b ≡ b
+pub recorded-out : (t : ℕ) (o : Bool) (slot : ℕ) (b : Records) → length (b .ends) ≡ 64 → 64 ≤ t → recordTx t o slot b ≡ b
 unfolding recordTx
 recorded-out t o slot b h l = by (has (loggedOf (b .log)) t)
   where

@@ -1,10 +1,10 @@
 -- Who takes part in a round. Assumes nothing.
 use Prim.Native.Nat.{ℕ, _^_, _<_}
 use mathlib.Core.Bool.{Bool, true, false, _||_, _&&_}
-use mathlib.Core.Path.{_≡_, refl, sym, ap, ap₂, _∙_}
+use mathlib.Core.Path.{_≡_, refl, ap, ap₂, _∙_}
 use lib.Dec.{eqb, ltb}
 use native.Mathlib.Omega.{arith}
-use Rattle.marks.specs.Marks.{has, marks}
+use Rattle.marks.specs.Marks.{has}
 use Rattle.marks.specs.Sets.{marks-is, has-marks}
 use Rattle.engines.specs.Marked.{withMark}
 use Rattle.pipeline.specs.Pipeline.{partsOf}

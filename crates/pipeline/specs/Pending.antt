@@ -1,5 +1,5 @@
--- Document 01, "Identical flood and pipeline round": what a position knows of transactions. A log is an ordered list of outcomes,
--- with room for 64, and is only ever added to. Transactions have numbers below 64. Assumes nothing.
+-- Document 01, "Identical flood and pipeline round": what a position knows of transactions. A log is an ordered list
+-- of outcomes, with room for 64, and is only ever added to. Transactions have numbers below 64. Assumes nothing.
 use Prim.Native.Nat.{ℕ, _+_, _-_}
 use mathlib.Core.Bool.{Bool, true, false, not, _||_, _&&_}
 use mathlib.Core.List.{List}
@@ -10,7 +10,7 @@ use Rattle.loops.specs.Pick.{either}
 use Rattle.loops.specs.Upto.{upto}
 use Rattle.loops.specs.Downto.{downto}
 use Rattle.marks.specs.Marks.{has, marks, allOf}
-use Rattle.engines.specs.Limits.{atMost64}
+use Rattle.engines.specs.Clamp.{atMost64}
 use Rattle.engines.specs.Marked.{overMarks, withMark}
 use Rattle.engines.specs.Words.{nextOf, lostOf}
 use Rattle.engines.specs.declared.words.Draw.{Draw}
@@ -126,8 +126,9 @@ votedBy p i bits abort x =
 unfoldable pub voteOf : List ℕ → Float → ℕ → ℕ → Bool → Draw → Vote
 voteOf ws p i bits abort d = votedBy p i bits abort (nextOf ws d)
 
--- Pending transactions are judged once as many rounds have passed since their start as there are positions. All positions that
--- hear of a transaction hear of it in the round of its start, the only one in which its data is on air: so the room holds that round once.
+-- Pending transactions are judged once as many rounds have passed since their start as there are positions. All
+-- positions that hear of a transaction hear of it in the round of its start, the only one in which its data is on
+-- air: so the room holds that round once.
 unfoldable pub isJudged : ℕ → ℕ → ℕ → Bool
 isJudged n r start = leb (start + n) r
 
@@ -154,6 +155,7 @@ abortAt t s = finalizeTx t false s
 unfoldable pub abortAll : ℕ → NodeTwoPcState → NodeTwoPcState
 abortAll fast s = overMarks fast abortAt s
 
--- A position that has the packet's transaction pending, and knows of no abort of it, gives its own yes, to all that is pending up to it.
+-- A position that has the packet's transaction pending, and knows of no abort of it, gives its own yes, to all that
+-- is pending up to it.
 unfoldable pub ownVote : ℕ → ℕ → NodeTwoPcState → NodeTwoPcState
 ownVote i top s = either (has (s .pending) top && not (has (s .aborts) top)) (mergeVotes top (withMark 0 i) s) s

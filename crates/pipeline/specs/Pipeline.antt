@@ -1,6 +1,6 @@
 -- Document 01, "Identical flood and pipeline round": what a round says and what is done with it, `prepare_round` and
 -- `process_round`, in their order of steps and draws. Assumes nothing.
-use Prim.Native.Nat.{ℕ, _+_, _-_, _*_, _/_, _%_, _^_, min}
+use Prim.Native.Nat.{ℕ, _+_, _-_, _/_, _%_, min}
 use mathlib.Core.Bool.{Bool, true, false, not, _||_, _&&_}
 use mathlib.Core.List.{List, [], _∷_}
 use lib.Dec.{eqb, ltb, leb}
@@ -18,9 +18,9 @@ use Rattle.packets.specs.declared.PiggybackTx.the-variants as tx
 use Rattle.packets.specs.declared.PiggybackState.{PiggybackState}
 use Rattle.packets.specs.declared.PiggybackState.the-variants as state
 use Rattle.packets.specs.declared.TwoPcPacket.{TwoPcPacket}
-use Rattle.engines.specs.Limits.{atMost64}
+use Rattle.engines.specs.Clamp.{atMost64}
 use Rattle.engines.specs.Marked.{overMarks, withMark}
-use Rattle.engines.specs.Nodes.{inc, noNode, sleeps}
+use Rattle.engines.specs.Nodes.{inc, noNode}
 use Rattle.pipeline.specs.Pending.{loggedOf, outcomeOf, pushed, finalizeTx, unanimousOf, openTx, mergeVotes, mergeAbort, nackOf, voteOf, isJudged, judged, fastOf, abortAll, ownVote}
 use Rattle.engines.specs.declared.words.Draw.{Draw}
 use Rattle.engines.specs.declared.node.Node.{Node}
@@ -29,12 +29,12 @@ use Rattle.pipeline.specs.declared.two_pc_pipeline.Vote.{Vote}
 use Rattle.pipeline.specs.declared.two_pc_pipeline.Piggyback.{Piggyback}
 use Rattle.pipeline.specs.declared.two_pc_pipeline.Piggyback.the-variants.{Absent, Present}
 use Rattle.pipeline.specs.declared.two_pc_pipeline.RoundPacket.{RoundPacket}
-use Rattle.pipeline.specs.declared.two_pc_pipeline.Book.{Book}
+use Rattle.pipeline.specs.declared.two_pc_pipeline.Records.{Records}
 use Rattle.pipeline.specs.declared.two_pc_pipeline.Txs.{Txs}
 use Rattle.pipeline.specs.declared.prepare.Begun.{Begun}
 use Rattle.pipeline.specs.declared.prepare.Prepared.{Prepared}
 use Rattle.pipeline.specs.declared.process.Learnt.{Learnt}
-use Rattle.pipeline.specs.declared.process.Ledger.{Ledger}
+use Rattle.pipeline.specs.declared.process.Carried.{Carried}
 use Rattle.pipeline.specs.declared.process.Processed.{Processed}
 use Rattle.pipeline.specs.declared.process.RoundFacts.{RoundFacts}
 
@@ -93,15 +93,16 @@ samePacket a b =
 -- ---- records
 
 -- The first outcome that the room sees of a transaction is recorded, with the slot at which it does.
-abbrev pub recordedIn : ℕ → Bool → ℕ → Book → Book
+abbrev pub recordedIn : ℕ → Bool → ℕ → Records → Records
 recordedIn t o slot b = record { log = pushed t o (b .log); ends = set (b .ends) t slot }
 
-unfoldable pub recordTx : ℕ → Bool → ℕ → Book → Book
+unfoldable pub recordTx : ℕ → Bool → ℕ → Records → Records
 recordTx t o slot b = either (has (loggedOf (b .log)) t) b (recordedIn t o slot b)
 
 -- ---- prepare_round
 
--- A new transaction, as long as there are some to come: the initiator's vote takes a draw, and the transaction is pending with it.
+-- A new transaction, as long as there are some to come: the initiator's vote takes a draw, and the transaction is
+-- pending with it.
 abbrev pub newTx : ℕ → ℕ → Txs → NodeTwoPcState → Vote → Begun
 newTx r slot txs s v =
     record {
@@ -129,13 +130,14 @@ unfoldable pub beginTx : List ℕ → Float → ℕ → ℕ → ℕ → ℕ → 
 beginTx ws p i r slot t txs s d = either (isFresh t txs) (newTx r slot txs s (voteOf ws p i 0 false d)) (oldTx txs s d)
 
 -- What the initiator judges is recorded, with the slot before the flood.
-unfoldable pub recordDue : ℕ → ℕ → ℕ → List ℕ → NodeTwoPcState → ℕ → Book → Book
+unfoldable pub recordDue : ℕ → ℕ → ℕ → List ℕ → NodeTwoPcState → ℕ → Records → Records
 recordDue n r slot rounds s t b = either (isJudged n r (getD rounds t 0)) (recordTx t (unanimousOf n s t) slot b) b
 
-unfoldable pub recordJudged : ℕ → ℕ → ℕ → List ℕ → NodeTwoPcState → Book → Book
+unfoldable pub recordJudged : ℕ → ℕ → ℕ → List ℕ → NodeTwoPcState → Records → Records
 recordJudged n r slot rounds s b = overMarks (s .pending) (recordDue n r slot rounds s) b
 
--- The packet shows what is known of its transaction while that is pending, and the sender's own yes unless it has an abort.
+-- The packet shows what is known of its transaction while that is pending, and the sender's own yes unless it has an
+-- abort.
 unfoldable pub abortOf : NodeTwoPcState → ℕ → Bool
 abortOf s t = has (s .pending) t && has (s .aborts) t
 
@@ -155,19 +157,19 @@ roundPacket i t fresh nack pb s =
     }
 
 -- The gap is looked for first, then comes the new transaction, then what is due is judged, then the packet.
-abbrev pub preparedBy : RoundFacts → ℕ → ℕ → Book → Piggyback → Begun → Prepared
-preparedBy facts i nack book pb b =
+abbrev pub preparedBy : RoundFacts → ℕ → ℕ → Records → Piggyback → Begun → Prepared
+preparedBy facts i nack records pb b =
     record {
       state = judged (facts .n) (facts .round) (b .txs .rounds) (b .state);
       txs = b .txs;
-      book = recordJudged (facts .n) (facts .round) (facts .slot) (b .txs .rounds) (b .state) book;
+      records = recordJudged (facts .n) (facts .round) (facts .slot) (b .txs .rounds) (b .state) records;
       packet = roundPacket i (b .tx) (b .fresh) nack pb (judged (facts .n) (facts .round) (b .txs .rounds) (b .state));
       draw = b .draw;
     }
 
-unfoldable pub prepareRound : List ℕ → Float → ℕ → RoundFacts → ℕ → Txs → Book → Piggyback → NodeTwoPcState → Draw → Prepared
-prepareRound ws p i facts t txs book pb s d =
-    preparedBy facts i (nackOf (txs .counter) s) book pb (beginTx ws p i (facts .round) (facts .slot) t txs s d)
+unfoldable pub prepareRound : List ℕ → Float → ℕ → RoundFacts → ℕ → Txs → Records → Piggyback → NodeTwoPcState → Draw → Prepared
+prepareRound ws p i facts t txs records pb s d =
+    preparedBy facts i (nackOf (txs .counter) s) records pb (beginTx ws p i (facts .round) (facts .slot) t txs s d)
 
 -- ---- process_round, one position
 
@@ -186,10 +188,10 @@ unfoldable pub mergeRound : ℕ → RoundPacket → NodeTwoPcState → NodeTwoPc
 mergeRound i q s = ownVote i (q .tx) (mergeAbort (q .tx) (q .abort) (mergeVotes (q .tx) (q .bits) s))
 
 -- Fast aborts are recorded, whoever makes them.
-abbrev pub recordAbort : ℕ → ℕ → Book → Book
+abbrev pub recordAbort : ℕ → ℕ → Records → Records
 recordAbort slot t b = recordTx t false slot b
 
-unfoldable pub recordAborts : ℕ → ℕ → Book → Book
+unfoldable pub recordAborts : ℕ → ℕ → Records → Records
 recordAborts slot fast b = overMarks fast (recordAbort slot) b
 
 -- A piggybacked outcome is entered, if it is not logged.
@@ -201,29 +203,29 @@ takeUp (Present t o) s = finalizeTx t o s
 unfoldable pub isAnswer : ℕ → NodeTwoPcState → Bool
 isAnswer nack s = ltb 0 nack && has (loggedOf (s .log)) nack
 
-abbrev pub answered : ℕ → NodeTwoPcState → Ledger → Ledger
+abbrev pub answered : ℕ → NodeTwoPcState → Carried → Carried
 answered nack s l =
-    record { draw = l .draw; book = l .book; piggyback = Present nack (outcomeOf (s .log) nack); answers = inc (l .answers) }
+    record { draw = l .draw; records = l .records; piggyback = Present nack (outcomeOf (s .log) nack); answers = inc (l .answers) }
 
-unfoldable pub answerNack : ℕ → NodeTwoPcState → Ledger → Ledger
+unfoldable pub answerNack : ℕ → NodeTwoPcState → Carried → Carried
 answerNack nack s l = either (isAnswer nack s) (answered nack s l) l
 
 -- All steps of one position, in their order. Its own judgements come last and are not recorded.
-abbrev pub judgedLast : RoundFacts → List ℕ → RoundPacket → Draw → Book → Ledger → NodeTwoPcState → Processed
+abbrev pub judgedLast : RoundFacts → List ℕ → RoundPacket → Draw → Records → Carried → NodeTwoPcState → Processed
 judgedLast facts rounds q d b l s =
     record {
       state = judged (facts .n) (facts .round) rounds s;
-      ledger = answerNack (q .nack) s (record { draw = d; book = b; piggyback = l .piggyback; answers = l .answers });
+      carried = answerNack (q .nack) s (record { draw = d; records = b; piggyback = l .piggyback; answers = l .answers });
     }
 
-abbrev pub fastNext : RoundFacts → List ℕ → RoundPacket → Draw → Ledger → NodeTwoPcState → Processed
+abbrev pub fastNext : RoundFacts → List ℕ → RoundPacket → Draw → Carried → NodeTwoPcState → Processed
 fastNext facts rounds q d l s =
-    judgedLast facts rounds q d (recordAborts (facts .slot) (fastOf s) (l .book)) l (takeUp (q .piggyback) (abortAll (fastOf s) s))
+    judgedLast facts rounds q d (recordAborts (facts .slot) (fastOf s) (l .records)) l (takeUp (q .piggyback) (abortAll (fastOf s) s))
 
-abbrev pub heardNext : RoundFacts → List ℕ → ℕ → RoundPacket → Ledger → Learnt → Processed
+abbrev pub heardNext : RoundFacts → List ℕ → ℕ → RoundPacket → Carried → Learnt → Processed
 heardNext facts rounds i q l h = fastNext facts rounds q (h .draw) l (mergeRound i q (h .state))
 
-unfoldable pub processOne : List ℕ → Float → RoundFacts → List ℕ → RoundPacket → ℕ → NodeTwoPcState → Ledger → Processed
+unfoldable pub processOne : List ℕ → Float → RoundFacts → List ℕ → RoundPacket → ℕ → NodeTwoPcState → Carried → Processed
 processOne ws p facts rounds q i s l = heardNext facts rounds i q l (hearNew ws p i q s (l .draw))
 
 -- ---- process_round, all positions
@@ -238,13 +240,13 @@ partsOf n initiator sleeping = marks 64 (λ i. ltb i n && (has sleeping i || eqb
 
 pub record Processing : Type 0 where
   pub states : List NodeTwoPcState
-  pub ledger : Ledger
+  pub carried : Carried
 
 abbrev pub putBack : ℕ → List NodeTwoPcState → Processed → Processing
-putBack i ss x = record { states = set ss i (x .state); ledger = x .ledger }
+putBack i ss x = record { states = set ss i (x .state); carried = x .carried }
 
 unfoldable pub processAt : List ℕ → Float → RoundFacts → List ℕ → RoundPacket → ℕ → Processing → Processing
-processAt ws p facts rounds q i g = putBack i (g .states) (processOne ws p facts rounds q i (getD (g .states) i noState) (g .ledger))
+processAt ws p facts rounds q i g = putBack i (g .states) (processOne ws p facts rounds q i (getD (g .states) i noState) (g .carried))
 
 unfoldable pub processAll : List ℕ → Float → RoundFacts → List ℕ → RoundPacket → ℕ → Processing → Processing
 processAll ws p facts rounds q parts g = overMarks parts (processAt ws p facts rounds q) g
@@ -277,7 +279,7 @@ progressAt t done ss i l = set l i (progressed done (leb t (getD ss i noState .l
 unfoldable pub progressAll : ℕ → ℕ → ℕ → List NodeTwoPcState → List Node → List Node
 progressAll n t done ss l = upto (atMost64 n) (progressAt t done ss) l
 
--- The room stops once everybody has finished all transactions, and all were generated; or when it has idled for more than a
--- thousand rounds. (Everybody has finished all just if the shortest log has all.)
+-- The room stops once everybody has finished all transactions, and all were generated; or when it has idled for more
+-- than a thousand rounds. (Everybody has finished all just if the shortest log has all.)
 unfoldable pub stopsAt : ℕ → ℕ → ℕ → ℕ → Bool
 stopsAt t done counter r = (leb t done && leb t counter) || ltb (t + 1000) r

@@ -1,40 +1,40 @@
--- Document 01, "Identical flood and pipeline round", and refusals 14 to 17: one pipeline round. Assumes nothing.
-use Prim.Native.Nat.{ℕ, _+_, _%_, _^_}
-use mathlib.Core.Bool.{Bool, true, false, _||_, _&&_}
+-- Document 01, "Identical flood and pipeline round", and refusals 2 and 14 to 17: one pipeline round. Assumes nothing.
+use Prim.Native.Nat.{ℕ, _+_, _*_, _/_, _%_, _^_}
+use mathlib.Core.Bool.{Bool, false, _||_, _&&_}
 use mathlib.Core.Path.{_≡_}
-use mathlib.Core.List.{List, []}
+use mathlib.Core.List.{List}
 use lib.Dec.{eqb, ltb, leb}
 use lib.ListN.{length, getD, set, replicate}
+use lib.Seq.{sets}
 use mir.Val.{boolByte}
 use Rattle.loops.specs.Pick.{either}
 use Rattle.loops.specs.Upto.{upto}
 use Rattle.marks.specs.Marks.{has}
+use Rattle.limits.specs.Limits.{positions, rowCells}
+use Rattle.limits.specs.Refusals.{badPositions, stopped}
 use Rattle.packets.specs.Packets.{pipelineText, pipelineWithin}
 use Rattle.packets.specs.Writing.{textLen}
-use Rattle.engines.specs.Limits.{atMost64}
+use Rattle.engines.specs.Clamp.{atMost64}
 use Rattle.engines.specs.Marked.{overMarks}
-use Rattle.engines.specs.Nodes.{inc, noNode, setsOf}
-use Rattle.engines.specs.Rows.{rowsRefused}
-use Rattle.pipeline.specs.Flood.{floodStart, floodRound, writtenRound}
-use Rattle.engines.specs.Metrics.{noMetrics}
+use Rattle.engines.specs.Nodes.{inc, setsOf}
+use Rattle.engines.specs.Network.{withNodes, longRefusal, lateOf, orElse}
+use Rattle.flood.specs.Flood.{floodStart, floodRound, floodRows}
 use Rattle.pipeline.specs.Pending.{noEntry, joinMarks}
 use Rattle.pipeline.specs.Pipeline.{packetOf, samePacket, noState, prepareRound, partsOf, Processing, processAll, shortestLog, progressAll, stopsAt}
 use Rattle.engines.specs.declared.words.Draw.{Draw}
-use Rattle.engines.specs.declared.node.Node.{Node}
 use Rattle.engines.specs.declared.metrics.MetricsCollector.{MetricsCollector}
-use Rattle.pipeline.specs.declared.flood.FloodConf.{FloodConf}
-use Rattle.pipeline.specs.declared.flood.FloodRun.{FloodRun}
+use Rattle.engines.specs.declared.network.Network.{Network}
+use Rattle.flood.specs.declared.flood.FloodRun.{FloodRun}
 use Rattle.pipeline.specs.declared.two_pc_pipeline.TxLog.{TxLog}
 use Rattle.pipeline.specs.declared.two_pc_pipeline.NodeTwoPcState.{NodeTwoPcState}
-use Rattle.pipeline.specs.declared.two_pc_pipeline.Piggyback.the-variants.{Absent, Present}
+use Rattle.pipeline.specs.declared.two_pc_pipeline.Piggyback.the-variants.{Absent}
 use Rattle.pipeline.specs.declared.two_pc_pipeline.RoundPacket.{RoundPacket}
 use Rattle.pipeline.specs.declared.prepare.Prepared.{Prepared}
 use Rattle.pipeline.specs.declared.process.RoundFacts.{RoundFacts}
-use Rattle.pipeline.specs.declared.process.Ledger.{Ledger}
 use Rattle.pipeline.specs.declared.pipeline.PipelineConf.{PipelineConf}
-use Rattle.pipeline.specs.declared.pipeline.Pipeline.{Pipeline}
+use Rattle.pipeline.specs.declared.pipeline.PipelinePart.{PipelinePart}
 use Rattle.pipeline.specs.declared.pipeline.RoundRun.{RoundRun}
-use Rattle.pipeline.specs.declared.pipeline.RoundAnswer.{RoundAnswer}
+use Rattle.pipeline.specs.declared.pipeline.PipelineAnswer.{PipelineAnswer}
 
 -- ---- who holds what
 
@@ -49,21 +49,16 @@ newLog = record { len = 0; entries = replicate 64 noEntry }
 abbrev pub newState : NodeTwoPcState
 newState = record { log = newLog; pending = 0; aborts = 0; votes = replicate 64 0 }
 
--- Slot 0, counts 0, logs empty, and nobody holds a packet.
-unfoldable pub newPipeline : Pipeline
-newPipeline =
+-- Logs empty, no transaction generated, and nobody holds a packet.
+unfoldable pub newPart : PipelinePart
+newPart =
     record {
-      at = replicate 64 noNode;
-      metrics = noMetrics;
-      slot = 0;
-      next = 0;
       round = 0;
-      sent = 0;
+      stop = false;
       states = replicate 64 newState;
       txs = record { counter = 0; starts = replicate 64 0; rounds = replicate 64 0 };
       piggyback = Absent;
-      stop = false;
-      book = record { log = newLog; ends = replicate 64 0 };
+      records = record { log = newLog; ends = replicate 64 0 };
       payloads = replicate 64 noPacket;
       holding = 0;
     }
@@ -89,51 +84,43 @@ coveredOf q n holding ps = upto (atMost64 n) (coverAt q holding ps) 0
 
 -- ---- the parts of a round
 
+abbrev pub sizeOf : PipelineConf → ℕ
+sizeOf conf = conf .round .graph .n
+
 -- what a round's steps are told of it
-abbrev pub factsOf : PipelineConf → Pipeline → ℕ → RoundFacts
-factsOf conf p slot = record { n = conf .n; round = p .round; slot = slot }
+abbrev pub factsOf : PipelineConf → PipelinePart → ℕ → RoundFacts
+factsOf conf p slot = record { n = sizeOf conf; round = p .round; slot = slot }
 
 -- The initiators take turns.
-unfoldable pub initiatorOf : PipelineConf → Pipeline → ℕ
-initiatorOf conf p = p .round % conf .n
+unfoldable pub initiatorOf : PipelineConf → PipelinePart → ℕ
+initiatorOf conf p = p .round % sizeOf conf
 
-unfoldable pub preparing : List ℕ → PipelineConf → Pipeline → ℕ → Draw → Prepared
-preparing ws conf p i d =
-    prepareRound ws (conf .settings .«abort_probability») i (factsOf conf p (p .slot)) (conf .txs) (p .txs) (p .book) (p .piggyback) (getD (p .states) i noState) d
+unfoldable pub preparing : List ℕ → PipelineConf → ℕ → PipelinePart → ℕ → Draw → Prepared
+preparing ws conf slot p i d =
+    prepareRound ws (conf .round .settings .«abort_probability») i (factsOf conf p slot) (conf .transactions)
+    (p .txs) (p .records) (p .piggyback) (getD (p .states) i noState) d
 
 -- every flooder sends the text of the whole packet
-unfoldable pub floodConf : PipelineConf → RoundPacket → FloodConf
-floodConf conf q =
-    record {
-      n = conf .n;
-      repeats = conf .settings .«flood_repeats»;
-      loss = conf .settings .«loss_rate»;
-      interval = conf .interval;
-      bytes = textLen (pipelineWithin (packetOf (conf .n) q)) (pipelineText (packetOf (conf .n) q));
-    }
+unfoldable pub bytesOf : PipelineConf → RoundPacket → ℕ
+bytesOf conf q = let full = packetOf (sizeOf conf) q in textLen (pipelineWithin full) (pipelineText full)
 
-unfoldable pub floodFrom : PipelineConf → Pipeline → ℕ → Draw → FloodRun
-floodFrom conf p i d =
+unfoldable pub floodFrom : PipelineConf → Network → ℕ → Draw → FloodRun
+floodFrom conf w i d =
     record {
-      at = floodStart (conf .n) i (conf .settings .«flood_repeats») (p .at);
-      slot = p .slot;
-      next = p .next;
+      network = withNodes w (floodStart (sizeOf conf) i (conf .round .settings .«flood_repeats») (w .nodes));
       draw = d;
-      attempts = 0;
-      success = 0;
-      sent = p .sent;
-      due = 0;
       over = false;
     }
 
-abbrev pub countedIn : MetricsCollector → ℕ → ℕ → FloodRun → ℕ → ℕ → MetricsCollector
-countedIn m nacks answers f n covered =
+-- Frames were counted slot by slot.
+abbrev pub countedIn : MetricsCollector → ℕ → ℕ → ℕ → ℕ → MetricsCollector
+countedIn m nacks answers n covered =
     record {
       «nacks_sent» = (m .«nacks_sent» + nacks) % 2 ^ 64;
       «piggybacks_sent» = (m .«piggybacks_sent» + answers) % 2 ^ 64;
       «ce_timeouts» = m .«ce_timeouts»;
-      «rx_attempts» = (m .«rx_attempts» + f .attempts) % 2 ^ 64;
-      «rx_success» = (m .«rx_success» + f .success) % 2 ^ 64;
+      «rx_attempts» = m .«rx_attempts»;
+      «rx_success» = m .«rx_success»;
       «flood_rounds» = inc (m .«flood_rounds»);
       «flood_nodes_total» = (m .«flood_nodes_total» + n) % 2 ^ 64;
       «flood_nodes_covered» = (m .«flood_nodes_covered» + covered) % 2 ^ 64;
@@ -145,113 +132,133 @@ countedIn m nacks answers f n covered =
 abbrev pub nextRound : Bool → ℕ → ℕ
 nextRound stop r = either stop r (inc r)
 
-abbrev pub stopped : PipelineConf → Pipeline → Prepared → ℕ → Bool
-stopped conf p prep done = stopsAt (conf .txs) done (prep .txs .counter) (p .round)
+abbrev pub stopping : PipelineConf → PipelinePart → Prepared → ℕ → Bool
+stopping conf p prep done = stopsAt (conf .transactions) done (prep .txs .counter) (p .round)
 
-abbrev pub ended : PipelineConf → Pipeline → Prepared → FloodRun → ℕ → List RoundPacket → Processing → ℕ → RoundRun
-ended conf p prep f holding ps g done =
+-- with other positions and other metrics
+abbrev pub endNetwork : PipelineConf → Network → Prepared → ℕ → List RoundPacket → Processing → ℕ → Network
+endNetwork conf w prep holding ps g done =
     record {
-      pipe =
-          record {
-            at = progressAll (conf .n) (conf .txs) done (g .states) (f .at);
-            metrics = countedIn (p .metrics) (boolByte (ltb 0 (prep .packet .nack))) (g .ledger .answers) f (conf .n) (coveredOf (prep .packet) (conf .n) holding ps);
-            slot = f .slot;
-            next = f .next;
-            round = nextRound (stopped conf p prep done) (p .round);
-            sent = f .sent;
-            states = g .states;
-            txs = prep .txs;
-            piggyback = g .ledger .piggyback;
-            stop = stopped conf p prep done;
-            book = g .ledger .book;
-            payloads = ps;
-            holding = holding;
-          };
-      draw = g .ledger .draw;
-      due = f .due;
+      nodes = progressAll (sizeOf conf) (conf .transactions) done (g .states) (w .nodes);
+      metrics =
+          countedIn (w .metrics) (boolByte (ltb 0 (prep .packet .nack))) (g .carried .answers) (sizeOf conf)
+          (coveredOf (prep .packet) (sizeOf conf) holding ps);
+      slot = w .slot;
+      «next_row» = w .«next_row»;
+      «bytes_sent» = w .«bytes_sent»;
     }
 
-abbrev pub processedBy : PipelineConf → Pipeline → Prepared → FloodRun → ℕ → List RoundPacket → Processing → RoundRun
-processedBy conf p prep f holding ps g = ended conf p prep f holding ps g (shortestLog (conf .n) (g .states))
+abbrev pub endPart : PipelineConf → PipelinePart → Prepared → ℕ → List RoundPacket → Processing → ℕ → PipelinePart
+endPart conf p prep holding ps g done =
+    record {
+      round = nextRound (stopping conf p prep done) (p .round);
+      stop = stopping conf p prep done;
+      states = g .states;
+      txs = prep .txs;
+      piggyback = g .carried .piggyback;
+      records = g .carried .records;
+      payloads = ps;
+      holding = holding;
+    }
+
+abbrev pub ended : PipelineConf → PipelinePart → Prepared → FloodRun → ℕ → List RoundPacket → Processing → RoundRun
+ended conf p prep f holding ps g =
+    let done = shortestLog (sizeOf conf) (g .states) in
+    record {
+      network = endNetwork conf (f .network) prep holding ps g done;
+      part = endPart conf p prep holding ps g done;
+      draw = g .carried .draw;
+    }
+
+-- whoever takes part processes the packet; the initiator's own state is as it was prepared
+unfoldable pub processing : List ℕ → PipelineConf → PipelinePart → ℕ → Prepared → FloodRun → ℕ → Processing
+processing ws conf p i prep f parts =
+    processAll ws (conf .round .settings .«abort_probability») (factsOf conf p (f .network .slot)) (prep .txs .rounds)
+    (prep .packet) parts
+    (record {
+      states = set (p .states) i (prep .state);
+      carried = record { draw = f .draw; records = prep .records; piggyback = Absent; answers = 0 };
+    })
 
 -- The flood is over: its packet is delivered, and whoever takes part processes it.
-abbrev pub handedOn : List ℕ → PipelineConf → Pipeline → ℕ → Prepared → FloodRun → ℕ → RoundRun
+abbrev pub handedOn : List ℕ → PipelineConf → PipelinePart → ℕ → Prepared → FloodRun → ℕ → RoundRun
 handedOn ws conf p i prep f parts =
-    processedBy conf p prep f (joinMarks (p .holding) parts) (deliverAll (prep .packet) parts (p .payloads))
-    (processAll ws (conf .settings .«abort_probability») (factsOf conf p (f .slot)) (prep .txs .rounds) (prep .packet) parts
-    (record { states = set (p .states) i (prep .state); ledger = record { draw = f .draw; book = prep .book; piggyback = Absent; answers = 0 } }))
+    ended conf p prep f (joinMarks (p .holding) parts) (deliverAll (prep .packet) parts (p .payloads))
+    (processing ws conf p i prep f parts)
 
-unfoldable pub closeRound : List ℕ → PipelineConf → Pipeline → ℕ → Prepared → FloodRun → RoundRun
-closeRound ws conf p i prep f = handedOn ws conf p i prep f (partsOf (conf .n) i (setsOf (conf .n) (f .at) .sleeping))
+unfoldable pub closeRound : List ℕ → PipelineConf → PipelinePart → ℕ → Prepared → FloodRun → RoundRun
+closeRound ws conf p i prep f =
+    handedOn ws conf p i prep f (partsOf (sizeOf conf) i (setsOf (sizeOf conf) (f .network .nodes) .sleeping))
 
 -- ---- the round
 
+unfoldable pub floodOf : List ℕ → PipelineConf → Network → ℕ → Prepared → FloodRun
+floodOf ws conf w i prep = floodRound ws (conf .round) (bytesOf conf (prep .packet)) (floodFrom conf w i (prep .draw))
+
+abbrev pub runFrom : List ℕ → PipelineConf → Network → PipelinePart → ℕ → Prepared → RoundRun
+runFrom ws conf w p i prep = closeRound ws conf p i prep (floodOf ws conf w i prep)
+
 -- prepare, flood, process
-unfoldable pub floodOf : List ℕ → PipelineConf → Pipeline → ℕ → Prepared → FloodRun
-floodOf ws conf p i prep = floodRound ws (conf .links) (floodConf conf (prep .packet)) (conf .length) (floodFrom conf p i (prep .draw))
+unfoldable pub runRound : List ℕ → PipelineConf → Network → PipelinePart → Draw → RoundRun
+runRound ws conf w p d = runFrom ws conf w p (initiatorOf conf p) (preparing ws conf (w .slot) p (initiatorOf conf p) d)
 
-abbrev pub runFrom : List ℕ → PipelineConf → Pipeline → ℕ → Prepared → RoundRun
-runFrom ws conf p i prep = closeRound ws conf p i prep (floodOf ws conf p i prep)
+-- the rows of its flood
+abbrev pub rowsFrom : List ℕ → PipelineConf → Network → ℕ → Prepared → List ℕ
+rowsFrom ws conf w i prep = floodRows ws (conf .round) (bytesOf conf (prep .packet)) (floodFrom conf w i (prep .draw))
 
-unfoldable pub runRound : List ℕ → PipelineConf → Pipeline → Draw → RoundRun
-runRound ws conf p d = runFrom ws conf p (initiatorOf conf p) (preparing ws conf p (initiatorOf conf p) d)
+unfoldable pub rowsOfRound : List ℕ → PipelineConf → Network → PipelinePart → Draw → List ℕ
+rowsOfRound ws conf w p d =
+    rowsFrom ws conf w (initiatorOf conf p) (preparing ws conf (w .slot) p (initiatorOf conf p) d)
 
--- what a run of a round must find out: the same
-pub record RoundSurveyed (ws : List ℕ) (conf : PipelineConf) (p : Pipeline) (d : Draw) (r : RoundRun) : Type 0 where
-  pub short : r .draw .short ≡ runRound ws conf p d .draw .short
-  pub run : r .draw .short ≡ false → r ≡ runRound ws conf p d
+-- how many they are
+abbrev pub dueOfRound : List ℕ → PipelineConf → Network → PipelinePart → Draw → ℕ
+dueOfRound ws conf w p d = length (rowsOfRound ws conf w p d) / rowCells
 
--- The buffer with the rows of that run behind those used.
-abbrev pub rowsFrom : List ℕ → PipelineConf → Pipeline → ℕ → Prepared → List ℕ → ℕ → List ℕ
-rowsFrom ws conf p i prep rows used =
-    writtenRound ws (conf .links) (floodConf conf (prep .packet)) (conf .length) (record { rows = rows; used = used; run = floodFrom conf p i (prep .draw) }) .rows
-
-unfoldable pub rowsOfRound : List ℕ → PipelineConf → Pipeline → Draw → List ℕ → ℕ → List ℕ
-rowsOfRound ws conf p d rows used = rowsFrom ws conf p (initiatorOf conf p) (preparing ws conf p (initiatorOf conf p) d) rows used
+-- no rule of 01: what a run without rows must find out
+pub record RoundSurveyed (ws : List ℕ) (conf : PipelineConf) (w : Network) (p : PipelinePart) (d : Draw)
+    (r : RoundRun) (due : ℕ) : Type 0 where
+  pub short : r .draw .short ≡ runRound ws conf w p d .draw .short
+  pub run : r .draw .short ≡ false → r ≡ runRound ws conf w p d
+  pub rows : r .draw .short ≡ false → due * rowCells ≡ length (rowsOfRound ws conf w p d)
 
 -- ---- refusals
 
--- 2: the positions. 14: the room has stopped, or its slot has reached the bound. 15: the start and the full length together
--- exceed 2^32 - 1.
-unfoldable pub earlyOf : ℕ → ℕ → ℕ → ℕ → Bool → ℕ
-earlyOf n bound len slot stop =
-    either (eqb n 0 || ltb 64 n) 2 (either (stop || leb bound slot) 14 (either (ltb 4294967295 (slot + len)) 15 0))
-
-abbrev pub earlyRefusal : PipelineConf → Pipeline → ℕ
-earlyRefusal conf p = earlyOf (conf .n) (conf .bound) (conf .length) (p .slot) (p .stop)
-
--- 16: some draw of the run found no word. 17: its rows do not fit.
-unfoldable pub lateOf : ℕ → ℕ → Bool → ℕ → ℕ
-lateOf numbers used short due = either short 16 (either (rowsRefused numbers used due) 17 0)
-
-abbrev pub lateRefusal : ℕ → ℕ → RoundRun → ℕ
-lateRefusal numbers used x = lateOf numbers used (x .draw .short) (x .due)
+-- 2: the positions. 14: the room has stopped, or its slot has reached the bound. 15: the full length passes the last
+-- slot.
+unfoldable pub earlyRefusal : PipelineConf → ℕ → Bool → ℕ
+earlyRefusal conf slot stop =
+    either (eqb (sizeOf conf) 0 || ltb positions (sizeOf conf)) badPositions
+    (either (stop || leb (conf .bound) slot) stopped (longRefusal (conf .round) slot))
 
 abbrev pub startDraw : ℕ → Draw
 startDraw cursor = record { at = cursor; short = false }
 
-abbrev pub refusedWith : ℕ → Pipeline → ℕ → ℕ → RoundAnswer
-refusedWith k p cursor used = record { refusal = k; cursor = cursor; used = used; pipe = p }
+-- 16: some draw of the run found no word. 17: its rows do not fit behind those used.
+unfoldable pub lateRefusal : List ℕ → ℕ → ℕ → PipelineConf → Network → PipelinePart → ℕ → ℕ
+lateRefusal ws numbers used conf w p cursor =
+    let d = startDraw cursor in
+    lateOf numbers used (runRound ws conf w p d .draw .short) (dueOfRound ws conf w p d)
 
-abbrev pub acceptedWith : ℕ → RoundRun → RoundAnswer
-acceptedWith used x = record { refusal = 0; cursor = x .draw .at; used = used + x .due; pipe = x .pipe }
+unfoldable pub roundRefusal : List ℕ → ℕ → ℕ → PipelineConf → Network → PipelinePart → ℕ → ℕ
+roundRefusal ws numbers used conf w p cursor =
+    orElse (earlyRefusal conf (w .slot) (p .stop)) (lateRefusal ws numbers used conf w p cursor)
+
+abbrev pub refusedWith : ℕ → Network → PipelinePart → ℕ → ℕ → PipelineAnswer
+refusedWith k w p cursor used = record { refusal = k; cursor = cursor; used = used; network = w; part = p }
+
+abbrev pub acceptedWith : ℕ → RoundRun → PipelineAnswer
+acceptedWith used x = record { refusal = 0; cursor = x .draw .at; used = used; network = x .network; part = x .part }
 
 -- A refused call hands back the room, the cursor and the number of rows used as they were.
-unfoldable pub lateAnswer : ℕ → ℕ → Pipeline → ℕ → RoundRun → RoundAnswer
-lateAnswer numbers used p cursor x =
-    either (eqb (lateRefusal numbers used x) 0) (acceptedWith used x) (refusedWith (lateRefusal numbers used x) p cursor used)
+unfoldable pub roundAnswer : List ℕ → ℕ → ℕ → PipelineConf → Network → PipelinePart → ℕ → PipelineAnswer
+roundAnswer ws numbers used conf w p cursor =
+    either (eqb (roundRefusal ws numbers used conf w p cursor) 0)
+    (acceptedWith (used + dueOfRound ws conf w p (startDraw cursor)) (runRound ws conf w p (startDraw cursor)))
+    (refusedWith (roundRefusal ws numbers used conf w p cursor) w p cursor used)
 
-unfoldable pub roundAnswer : List ℕ → ℕ → ℕ → PipelineConf → Pipeline → ℕ → RoundAnswer
-roundAnswer ws numbers used conf p cursor =
-    either (eqb (earlyRefusal conf p) 0)
-    (lateAnswer numbers used p cursor (runRound ws conf p (startDraw cursor)))
-    (refusedWith (earlyRefusal conf p) p cursor used)
-
--- .. and the buffer too. With no row due it stays as well.
-unfoldable pub lateBuffer : List ℕ → PipelineConf → Pipeline → ℕ → List ℕ → ℕ → RoundRun → List ℕ
-lateBuffer ws conf p cursor rows used x =
-    either (eqb (lateRefusal (length rows) used x) 0) (either (eqb (x .due) 0) rows (rowsOfRound ws conf p (startDraw cursor) rows used)) rows
-
-unfoldable pub roundBuffer : List ℕ → List ℕ → ℕ → PipelineConf → Pipeline → ℕ → List ℕ
-roundBuffer ws rows used conf p cursor =
-    either (eqb (earlyRefusal conf p) 0) (lateBuffer ws conf p cursor rows used (runRound ws conf p (startDraw cursor))) rows
+-- .. and the buffer too; an accepted one puts its rows behind those used.
+unfoldable pub roundBuffer : List ℕ → List ℕ → ℕ → PipelineConf → Network → PipelinePart → ℕ → List ℕ
+roundBuffer ws rows used conf w p cursor =
+    either (eqb (roundRefusal ws (length rows) used conf w p cursor) 0)
+    (sets rows (used * rowCells) (rowsOfRound ws conf w p (startDraw cursor)))
+    rows

@@ -1,10 +1,9 @@
-// The identical flood and the pipeline round. Part of the third layer; what both kinds of rounds are made of stands in `engines`.
-pub mod flood;
-mod ledger;
+// The pipeline round: transactions, what is pending of them, and the round that agrees on them. Part of the third
+// layer; its flood stands in `flood`, what both kinds of rounds are made of in `engines`.
+mod logs;
 pub mod packet;
 mod pending;
 pub mod pipeline;
 mod prepare;
 mod process;
-mod quiet;
 pub mod two_pc_pipeline;

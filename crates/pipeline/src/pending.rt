@@ -7,10 +7,10 @@ ghost use Rattle.loops.specs.Pick.{either};
 ghost use Rattle.marks.specs.Marks.{has};
 ghost use Rattle.engines.specs.Marked.{overMarks, withMark};
 ghost use Rattle.pipeline.specs.Pending.{joinMarks, commonMarks, withoutMark, finalizeTx, unanimousOf, openTx, votesAt, mergeVotes, mergeAbort, gapAt, gapOf, nackOf, voteOf, isJudged, ripeOf, settleAt, judged, fastOf, abortAll, ownVote};
-use super::ledger;
+use super::logs;
 use super::two_pc_pipeline::NodeTwoPcState;
 use super::two_pc_pipeline::Vote;
-use engines::limits;
+use engines::clamp;
 use engines::words;
 use engines::words::Draw;
 use graph::sets;
@@ -45,12 +45,12 @@ pub fn finalize_tx(s: NodeTwoPcState, t: usize, committed: bool) -> NodeTwoPcSta
     ensures { λ r. ⌜ r ≡ finalizeTx t committed s ⌝ }
 {
     let g = s.log;
-    if sets::is_marked(ledger::logged(g), t) {
+    if sets::is_marked(logs::logged(g), t) {
         return s;
     }
     let votes = s.votes;
     NodeTwoPcState {
-        log: ledger::push(g, t, committed),
+        log: logs::push(g, t, committed),
         pending: without(s.pending, t),
         aborts: s.aborts,
         votes,
@@ -187,8 +187,8 @@ pub fn detect_gap(s: NodeTwoPcState, current: usize) -> usize
     ensures { λ r. ⌜ r ≡ gapOf current s ⌝ }
 {
     let log = s.log;
-    let known = join(ledger::logged(log), s.pending);
-    let count = limits::at_most_64(current);
+    let known = join(logs::logged(log), s.pending);
+    let count = clamp::at_most_64(current);
     let mut g: usize = 64;
     let mut t: usize = 0;
     while t < count {
@@ -283,7 +283,8 @@ fn judge_all(n: usize, due: u64, s: NodeTwoPcState) -> NodeTwoPcState
     q
 }
 
-// What is pending is judged. Which of it is due is found first, by numbers alone: a state is copied only where it changes.
+// What is pending is judged. Which of it is due is found first, by numbers alone: a state is copied only where it
+// changes.
 pub fn judge(n: usize, r: u64, rounds: &[u64; 64], s: NodeTwoPcState) -> NodeTwoPcState
     ensures { λ q. ⌜ q ≡ judged n r (now (rounds .entry)) s ⌝ }
 {

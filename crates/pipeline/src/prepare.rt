@@ -6,12 +6,12 @@ ghost use Rattle.loops.specs.Pick.{either};
 ghost use Rattle.engines.specs.Marked.{withMark};
 ghost use Rattle.pipeline.specs.Pending.{voteOf};
 ghost use Rattle.pipeline.specs.Pipeline.{recordTx, oldTx, newTx, beginTx, recordDue, recordJudged, abortOf, knownVotes, roundPacket, prepareRound};
-use super::ledger;
+use super::logs;
 use super::pending;
 use super::process::RoundFacts;
-use super::two_pc_pipeline::Book;
 use super::two_pc_pipeline::NodeTwoPcState;
 use super::two_pc_pipeline::Piggyback;
+use super::two_pc_pipeline::Records;
 use super::two_pc_pipeline::RoundPacket;
 use super::two_pc_pipeline::Txs;
 use engines::words::Draw;
@@ -30,26 +30,26 @@ pub struct Begun {
 pub struct Prepared {
     pub state: NodeTwoPcState,
     pub txs: Txs,
-    pub book: Book,
+    pub records: Records,
     pub packet: RoundPacket,
     pub draw: Draw,
 }
 
 // The outcome of a transaction, unless one is recorded already. A number of 64 or more enters nothing.
-pub fn record_tx(b: Book, t: usize, committed: bool, slot: u64) -> Book
+pub fn record_tx(b: Records, t: usize, committed: bool, slot: u64) -> Records
     ensures { λ r. ⌜ r ≡ recordTx t committed slot b ⌝ }
 {
     if t >= 64 {
         return b;
     }
     let g = b.log;
-    if sets::is_marked(ledger::logged(g), t) {
+    if sets::is_marked(logs::logged(g), t) {
         return b;
     }
     let mut ends = b.ends;
     ends[t] = slot;
-    Book {
-        log: ledger::push(g, t, committed),
+    Records {
+        log: logs::push(g, t, committed),
         ends,
     }
 }
@@ -128,7 +128,13 @@ fn begin_tx(
     new_tx(words, p, i, facts, txs, s, d)
 }
 
-fn record_due(facts: RoundFacts, rounds: &[u64; 64], s: NodeTwoPcState, t: usize, b: Book) -> Book
+fn record_due(
+    facts: RoundFacts,
+    rounds: &[u64; 64],
+    s: NodeTwoPcState,
+    t: usize,
+    b: Records,
+) -> Records
     requires { ⌜ t < 64 ⌝ }
     ensures { λ r. ⌜ r ≡ recordDue (facts .n) (facts .round) (facts .slot) (now (rounds .entry)) s t b ⌝ }
 {
@@ -140,7 +146,7 @@ fn record_due(facts: RoundFacts, rounds: &[u64; 64], s: NodeTwoPcState, t: usize
 }
 
 // What is judged now is recorded, the lowest first.
-fn record_judged(facts: RoundFacts, rounds: &[u64; 64], s: NodeTwoPcState, b: Book) -> Book
+fn record_judged(facts: RoundFacts, rounds: &[u64; 64], s: NodeTwoPcState, b: Records) -> Records
     ensures { λ r. ⌜ r ≡ recordJudged (facts .n) (facts .round) (facts .slot) (now (rounds .entry)) s b ⌝ }
 {
     let mut c = b;
@@ -217,26 +223,26 @@ pub fn prepare_round(
     facts: RoundFacts,
     num_txs: usize,
     txs: Txs,
-    book: Book,
+    records: Records,
     piggyback: Piggyback,
     s: NodeTwoPcState,
     d: Draw,
 ) -> Prepared
-    ensures { λ r. ⌜ r ≡ prepareRound (now (words .entry)) p i facts «num_txs» txs book piggyback s d ⌝ }
+    ensures { λ r. ⌜ r ≡ prepareRound (now (words .entry)) p i facts «num_txs» txs records piggyback s d ⌝ }
 {
     let nack = pending::nack(s, txs.counter);
     let b = begin_tx(words, p, i, facts, num_txs, txs, s, d);
     let began = b.state;
     let after = b.txs;
     let rounds = after.rounds;
-    let noted = record_judged(facts, &rounds, began, book);
+    let noted = record_judged(facts, &rounds, began, records);
     let own = pending::judge(facts.n, facts.round, &rounds, began);
     let packet = make_packet(i, b.tx, b.fresh, nack, piggyback, own);
     let e = b.draw;
     Prepared {
         state: own,
         txs: after,
-        book: noted,
+        records: noted,
         packet,
         draw: e,
     }

@@ -4,14 +4,14 @@ ghost use mathlib.Core.Bool.{_&&_};
 ghost use Prim.Native.Nat.{min};
 ghost use lib.Dec.{leb};
 ghost use Rattle.pipeline.specs.Pipeline.{isNew, hearNew, mergeRound, recordAborts, takeUp, isAnswer, answerNack, processOne, partsOf, processAll, shortestLog, progressed, progressAll, stopsAt};
-use super::ledger;
+use super::logs;
 use super::pending;
 use super::prepare;
-use super::two_pc_pipeline::Book;
 use super::two_pc_pipeline::NodeTwoPcState;
 use super::two_pc_pipeline::Piggyback;
+use super::two_pc_pipeline::Records;
 use super::two_pc_pipeline::RoundPacket;
-use engines::limits;
+use engines::clamp;
 use engines::node::Node;
 use engines::words::Draw;
 use graph::sets;
@@ -28,22 +28,23 @@ pub struct Learnt {
     pub draw: Draw,
 }
 
-// What the positions share while they process a packet: the cursor, the records, the next round's piggyback, and how often it was set.
-pub struct Ledger {
+// What processing hands from one position to the next: the cursor, the records, the next round's piggyback, and how
+// often it was set.
+pub struct Carried {
     pub draw: Draw,
-    pub book: Book,
+    pub records: Records,
     pub piggyback: Piggyback,
     pub answers: u64,
 }
 
 pub struct Processed {
     pub state: NodeTwoPcState,
-    pub ledger: Ledger,
+    pub carried: Carried,
 }
 
 pub struct AllProcessed {
     pub states: [NodeTwoPcState; 64],
-    pub ledger: Ledger,
+    pub carried: Carried,
 }
 
 // The packet brings a transaction that is neither pending nor logged here.
@@ -57,7 +58,7 @@ fn is_new(q: RoundPacket, s: NodeTwoPcState) -> bool
         return false;
     }
     let g = s.log;
-    if sets::is_marked(ledger::logged(g), q.tx) {
+    if sets::is_marked(logs::logged(g), q.tx) {
         return false;
     }
     true
@@ -86,7 +87,7 @@ fn merge_round(i: usize, q: RoundPacket, s: NodeTwoPcState) -> NodeTwoPcState
     pending::own_vote(b, i, q.tx)
 }
 
-fn record_aborts(slot: u64, fast: u64, b: Book) -> Book
+fn record_aborts(slot: u64, fast: u64, b: Records) -> Records
     ensures { λ r. ⌜ r ≡ recordAborts slot fast b ⌝ }
 {
     let mut c = b;
@@ -116,22 +117,22 @@ fn is_answer(nack: usize, s: NodeTwoPcState) -> bool
         return false;
     }
     let g = s.log;
-    sets::is_marked(ledger::logged(g), nack)
+    sets::is_marked(logs::logged(g), nack)
 }
 
-fn answer_nack(nack: usize, s: NodeTwoPcState, l: Ledger) -> Ledger
+fn answer_nack(nack: usize, s: NodeTwoPcState, l: Carried) -> Carried
     ensures { λ r. ⌜ r ≡ answerNack nack s l ⌝ }
 {
     if !is_answer(nack, s) {
         return l;
     }
     let g = s.log;
-    let committed = ledger::outcome(g, nack);
+    let committed = logs::outcome(g, nack);
     let d = l.draw;
-    let b = l.book;
-    Ledger {
+    let b = l.records;
+    Carried {
         draw: d,
-        book: b,
+        records: b,
         piggyback: Piggyback::Present(nack, committed),
         answers: std::num::wrapping_add_u64(l.answers, 1),
     }
@@ -146,7 +147,7 @@ fn process_one(
     q: RoundPacket,
     i: usize,
     s: NodeTwoPcState,
-    l: Ledger,
+    l: Carried,
 ) -> Processed
     ensures { λ r. ⌜ r ≡ processOne (now (words .entry)) p facts (now (rounds .entry)) q i s l ⌝ }
 {
@@ -155,22 +156,22 @@ fn process_one(
     let heard = h.state;
     let merged = merge_round(i, q, heard);
     let fast = pending::fast_aborts(merged);
-    let book = l.book;
-    let noted = record_aborts(facts.slot, fast, book);
+    let records = l.records;
+    let noted = record_aborts(facts.slot, fast, records);
     let aborted = pending::abort_all(merged, fast);
     let told = q.piggyback;
     let taken = take_up(told, aborted);
     let e = h.draw;
     let piggyback = l.piggyback;
-    let m = Ledger {
+    let m = Carried {
         draw: e,
-        book: noted,
+        records: noted,
         piggyback,
         answers: l.answers,
     };
     Processed {
         state: pending::judge(facts.n, facts.round, rounds, taken),
-        ledger: answer_nack(q.nack, taken, m),
+        carried: answer_nack(q.nack, taken, m),
     }
 }
 
@@ -183,9 +184,9 @@ pub fn process_all(
     q: RoundPacket,
     parts: u64,
     states: [NodeTwoPcState; 64],
-    l: Ledger,
+    l: Carried,
 ) -> AllProcessed
-    ensures { λ r. ⌜ record { states = r .states; ledger = r .ledger } ≡ processAll (now (words .entry)) p facts (now (rounds .entry)) q parts (record { states = states; ledger = l }) ⌝ }
+    ensures { λ r. ⌜ record { states = r .states; carried = r .carried } ≡ processAll (now (words .entry)) p facts (now (rounds .entry)) q parts (record { states = states; carried = l }) ⌝ }
 {
     let mut ss = states;
     let mut m = l;
@@ -196,12 +197,12 @@ pub fn process_all(
         let x = process_one(words, p, facts, rounds, q, i, s, m);
         let t = x.state;
         ss[i] = t;
-        m = x.ledger;
+        m = x.carried;
         left = sets::without_mark(left, i);
     }
     AllProcessed {
         states: ss,
-        ledger: m,
+        carried: m,
     }
 }
 
@@ -223,7 +224,7 @@ fn smaller(a: usize, b: usize) -> usize
 pub fn shortest_log(states: [NodeTwoPcState; 64], n: usize) -> usize
     ensures { λ r. ⌜ r ≡ shortestLog n states ⌝ }
 {
-    let count = limits::at_most_64(n);
+    let count = clamp::at_most_64(n);
     let mut m: usize = 64;
     let mut i: usize = 0;
     while i < count {
@@ -260,7 +261,7 @@ pub fn progress_all(
 ) -> [Node; 64]
     ensures { λ r. ⌜ r ≡ progressAll n «num_txs» done states at ⌝ }
 {
-    let count = limits::at_most_64(n);
+    let count = clamp::at_most_64(n);
     let mut a = at;
     let mut i: usize = 0;
     while i < count {

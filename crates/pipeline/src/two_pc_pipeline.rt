@@ -1,5 +1,6 @@
-// Ported from protocol/two_pc_pipeline.rs: what a position knows of transactions, and what a round's packet says. A pending
-// transaction's data is never read again, so it is not held; nor is the highest transaction seen, which nobody reads.
+// Ported from protocol/two_pc_pipeline.rs: what a position knows of transactions, and what a round's packet says. A
+// pending transaction's data is never read again, so it is not held; nor is the highest transaction seen, which
+// nobody reads.
 use engines::words::Draw;
 
 // A finished transaction, and whether it was committed.
@@ -14,8 +15,9 @@ pub struct TxLog {
     pub entries: [LogEntry; 64],
 }
 
-// PendingTx by fields: a mark for each pending transaction and for each that has an abort, and the yes votes of each, a mark
-// for each position. The list of the Rust is always in rising order, since each transaction's data is on air in one round only.
+// PendingTx by fields: a mark for each pending transaction and for each that has an abort, and the yes votes of each,
+// a mark for each position. The list of the Rust is always in rising order, since each transaction's data is on air
+// in one round only.
 pub struct NodeTwoPcState {
     pub log: TxLog,
     pub pending: u64,
@@ -48,8 +50,9 @@ pub struct RoundPacket {
     pub piggyback: Piggyback,
 }
 
-// The room's records: the outcomes in the order in which they were recorded, and the slot at which each transaction's was.
-pub struct Book {
+// The room's records: the outcomes in the order in which they were recorded, and the slot at which each transaction's
+// was.
+pub struct Records {
     pub log: TxLog,
     pub ends: [u64; 64],
 }

@@ -1,14 +1,12 @@
 -- A room as numbers: stores that keep a list's length.
-use mathlib.Core.Path.{_≡_, ap, _∙_}
-use mathlib.Core.List.{List, [], _∷_, _++_}
+use mathlib.Core.Path.{_≡_}
+use mathlib.Core.List.{List}
 use Prim.Native.Nat.{ℕ, _+_, _-_, _*_}
-use native.Mathlib.Omega.{arith}
-use lib.ListN.{length, getD, set, replicate, length-set}
-use lib.Seq.{sets, length-sets}
-use Rattle.loops.specs.Table.{tabulate}
+use lib.ListN.{length, getD, length-set}
+use lib.Seq.{length-sets}
 use Rattle.pipeline.specs.Pipeline.{noState}
 use Rattle.pipeline.specs.Round.{noPacket}
-use Rattle.pipeline_c.specs.Console.{logNumbers, putLog, putState, stateTo, packetNumbers, packetTo}
+use Rattle.pipeline_c.specs.Console.{putLog, putState, stateTo, packetNumbers, packetTo}
 use Rattle.pipeline.specs.declared.two_pc_pipeline.TxLog.{TxLog}
 use Rattle.pipeline.specs.declared.two_pc_pipeline.NodeTwoPcState.{NodeTwoPcState}
 use Rattle.pipeline.specs.declared.two_pc_pipeline.RoundPacket.{RoundPacket}

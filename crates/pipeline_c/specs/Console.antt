@@ -1,6 +1,6 @@
 -- Document 01, "Where each language form belongs", entries on slices and numbers: a pipeline room as a lent list of numbers. A place
 -- past the end reads as 0, and nothing is put there. Assumes nothing.
-use mathlib.Core.Bool.{Bool, true, false}
+use mathlib.Core.Bool.{false}
 use mathlib.Core.List.{List, [], _∷_}
 use Prim.Native.Nat.{ℕ, _+_, _*_, _%_}
 use lib.Dec.{eqb, ltb}
@@ -11,19 +11,20 @@ use mir.Val.{boolByte}
 use Rattle.loops.specs.Pick.{either}
 use Rattle.loops.specs.Table.{tabulate}
 use Rattle.loops.specs.Upto.{upto}
-use Rattle.engines_c.specs.Numbers.{truth, nodesAt, putNodes, metricsAt, metricsNumbers}
+use Rattle.engines.specs.Network.{newNetwork}
+use Rattle.engines_c.specs.Numbers.{truth, networkAt, putNetwork}
 use Rattle.pipeline.specs.Pending.{noEntry}
 use Rattle.pipeline.specs.Pipeline.{noState}
-use Rattle.pipeline.specs.Round.{noPacket, newPipeline}
+use Rattle.pipeline.specs.Round.{noPacket, newPart}
 use Rattle.pipeline.specs.declared.two_pc_pipeline.LogEntry.{LogEntry}
 use Rattle.pipeline.specs.declared.two_pc_pipeline.TxLog.{TxLog}
 use Rattle.pipeline.specs.declared.two_pc_pipeline.NodeTwoPcState.{NodeTwoPcState}
 use Rattle.pipeline.specs.declared.two_pc_pipeline.Piggyback.{Piggyback}
 use Rattle.pipeline.specs.declared.two_pc_pipeline.Piggyback.the-variants.{Absent, Present}
 use Rattle.pipeline.specs.declared.two_pc_pipeline.RoundPacket.{RoundPacket}
-use Rattle.pipeline.specs.declared.two_pc_pipeline.Book.{Book}
+use Rattle.pipeline.specs.declared.two_pc_pipeline.Records.{Records}
 use Rattle.pipeline.specs.declared.two_pc_pipeline.Txs.{Txs}
-use Rattle.pipeline.specs.declared.pipeline.Pipeline.{Pipeline}
+use Rattle.pipeline.specs.declared.pipeline.PipelinePart.{PipelinePart}
 use Rattle.pipeline.specs.declared.pipeline.PipelineConf.{PipelineConf}
 use Rattle.pipeline_c.specs.declared.rounds.Played.{Played}
 
@@ -70,29 +71,32 @@ packetsAt xs = tabulate 64 (λ i. packetAt xs (9173 + i * 9))
 unfoldable pub txsAt : List ℕ → Txs
 txsAt xs = record { counter = getD xs 19 0; starts = wordsAt xs 20; rounds = wordsAt xs 84 }
 
-unfoldable pub bookAt : List ℕ → Book
-bookAt xs = record { log = logAt xs 148; ends = wordsAt xs 213 }
+unfoldable pub recordsAt : List ℕ → Records
+recordsAt xs = record { log = logAt xs 148; ends = wordsAt xs 213 }
 
-unfoldable pub pipeAt : List ℕ → Pipeline
-pipeAt xs =
+unfoldable pub partAt : List ℕ → PipelinePart
+partAt xs =
     record {
-      at = nodesAt xs 277;
-      metrics = metricsAt xs 7;
-      slot = getD xs 0 0;
-      next = getD xs 1 0;
       round = getD xs 2 0;
-      sent = getD xs 3 0;
+      stop = truth (getD xs 4 0);
       states = statesAt xs;
       txs = txsAt xs;
       piggyback = piggybackNumbered (getD xs 15 0) (getD xs 16 0) (getD xs 17 0);
-      stop = truth (getD xs 4 0);
-      book = bookAt xs;
+      records = recordsAt xs;
       payloads = packetsAt xs;
       holding = getD xs 18 0;
     }
 
 unfoldable pub playedAt : List ℕ → Played
-playedAt xs = record { refusal = 0; cursor = getD xs 6 0; used = getD xs 5 0; count = 0; pipe = pipeAt xs }
+playedAt xs =
+    record {
+      refusal = 0;
+      cursor = getD xs 6 0;
+      used = getD xs 5 0;
+      count = 0;
+      network = networkAt xs 3 7 277;
+      part = partAt xs;
+    }
 
 -- ---- to numbers
 
@@ -137,48 +141,52 @@ packetTo qs i xs = sets xs (9173 + i * 9) (packetNumbers (getD qs i noPacket))
 unfoldable pub putPackets : List RoundPacket → List ℕ → List ℕ
 putPackets qs xs = upto 64 (packetTo qs) xs
 
-unfoldable pub clockNumbers : Pipeline → ℕ → ℕ → List ℕ
-clockNumbers p cursor used = p .slot ∷ p .next ∷ p .round ∷ p .sent ∷ boolByte (p .stop) ∷ used ∷ cursor ∷ []
+unfoldable pub clockNumbers : PipelinePart → ℕ → ℕ → List ℕ
+clockNumbers p cursor used = boolByte (p .stop) ∷ used ∷ cursor ∷ []
 
-unfoldable pub headNumbers : Pipeline → List ℕ
+unfoldable pub headNumbers : PipelinePart → List ℕ
 headNumbers p = piggybackThere (p .piggyback) ∷ piggybackNumber (p .piggyback) ∷ piggybackOutcome (p .piggyback) ∷ p .holding ∷ p .txs .counter ∷ []
 
-unfoldable pub putHead : Pipeline → ℕ → ℕ → List ℕ → List ℕ
-putHead p cursor used xs = sets (sets (sets xs 0 (clockNumbers p cursor used)) 7 (metricsNumbers (p .metrics))) 15 (headNumbers p)
+unfoldable pub putHead : PipelinePart → ℕ → ℕ → List ℕ → List ℕ
+putHead p cursor used xs = sets (sets (set xs 2 (p .round)) 4 (clockNumbers p cursor used)) 15 (headNumbers p)
 
-unfoldable pub putTxs : Txs → Book → List ℕ → List ℕ
-putTxs txs book xs = sets (putLog 148 (book .log) (sets (sets xs 20 (txs .starts)) 84 (txs .rounds))) 213 (book .ends)
+unfoldable pub putTxs : Txs → Records → List ℕ → List ℕ
+putTxs txs records xs = sets (putLog 148 (records .log) (sets (sets xs 20 (txs .starts)) 84 (txs .rounds))) 213 (records .ends)
+
+unfoldable pub putPart : PipelinePart → ℕ → ℕ → List ℕ → List ℕ
+putPart p cursor used xs = putPackets (p .payloads) (putStates (p .states) (putTxs (p .txs) (p .records) (putHead p cursor used xs)))
 
 unfoldable pub putPlayed : Played → List ℕ → List ℕ
-putPlayed t xs =
-    putPackets (t .pipe .payloads) (putStates (t .pipe .states) (putNodes 277 (t .pipe .at) (putTxs (t .pipe .txs) (t .pipe .book) (putHead (t .pipe) (t .cursor) (t .used) xs))))
+putPlayed t xs = putPart (t .part) (t .cursor) (t .used) (putNetwork 3 7 277 (t .network) xs)
 
 -- ---- the entries
 
 -- A room as opened, with no row used and no word drawn.
 abbrev pub opened : Played
-opened = record { refusal = 0; cursor = 0; used = 0; count = 0; pipe = newPipeline }
+opened = record { refusal = 0; cursor = 0; used = 0; count = 0; network = newNetwork; part = newPart }
 
 -- The settings that a pipeline reads; the others are 0.
 unfoldable pub confBy : List ℕ → ℕ → ℕ → Float → Float → ℕ → ℕ → ℕ → ℕ → PipelineConf
-confBy links n txs loss p repeats len interval bound =
+confBy links n transactions loss p repeats len interval bound =
     record {
-      n = n;
-      links = wordsAt links 0;
-      settings =
+      round =
           record {
-            «loss_rate» = loss;
-            «abort_probability» = p;
-            seed = 0;
-            «listen_timeout» = 0;
-            «flood_repeats» = repeats;
-            «round_slots» = 0;
-            «slots_given» = false;
+            graph = record { n = n; adj = wordsAt links 0 };
+            settings =
+                record {
+                  «loss_rate» = loss;
+                  «abort_probability» = p;
+                  seed = 0;
+                  «listen_timeout» = 0;
+                  «flood_repeats» = repeats;
+                  «round_slots» = 0;
+                  «slots_given» = false;
+                };
+            interval = interval;
+            length = len;
           };
-      txs = txs;
-      interval = interval;
+      transactions = transactions;
       bound = bound;
-      length = len;
     }
 
 -- A state in which no round was accepted stays as it is, number for number.

@@ -10,20 +10,21 @@ use Rattle.loops.specs.Runs.{runs}
 use Rattle.engines.specs.Nodes.{inc}
 use Rattle.pipeline.specs.Round.{roundAnswer, roundBuffer}
 use Rattle.pipeline.specs.declared.pipeline.PipelineConf.{PipelineConf}
-use Rattle.pipeline.specs.declared.pipeline.RoundAnswer.{RoundAnswer}
+use Rattle.pipeline.specs.declared.pipeline.PipelineAnswer.{PipelineAnswer}
 use Rattle.pipeline_c.specs.declared.rounds.Played.{Played}
 
 unfoldable pub countAfter : ℕ → ℕ → ℕ
 countAfter count refusal = either (eqb refusal 0) (inc count) count
 
-unfoldable pub noted : ℕ → RoundAnswer → Played
+unfoldable pub noted : ℕ → PipelineAnswer → Played
 noted count a =
     record {
       refusal = a .refusal;
       cursor = a .cursor;
       used = a .used;
       count = countAfter count (a .refusal);
-      pipe = a .pipe;
+      network = a .network;
+      part = a .part;
     }
 
 -- A buffer, and the room whose rows it takes.
@@ -34,8 +35,10 @@ pub record Playing : Type 0 where
 unfoldable pub playRound : List ℕ → PipelineConf → Playing → Playing
 playRound ws conf w =
     record {
-      rows = roundBuffer ws (w .rows) (w .played .used) conf (w .played .pipe) (w .played .cursor);
-      played = noted (w .played .count) (roundAnswer ws (length (w .rows)) (w .played .used) conf (w .played .pipe) (w .played .cursor));
+      rows = roundBuffer ws (w .rows) (w .played .used) conf (w .played .network) (w .played .part) (w .played .cursor);
+      played =
+          noted (w .played .count)
+          (roundAnswer ws (length (w .rows)) (w .played .used) conf (w .played .network) (w .played .part) (w .played .cursor));
     }
 
 abbrev pub isRefused : Playing → Bool

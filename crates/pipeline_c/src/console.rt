@@ -8,27 +8,25 @@
 //   9173 the packets that they hold, 9 numbers each; 9749 in all
 // A place past the end of the list reads as 0, and nothing is put there. An entry of a log is its transaction, and 256 more if it was committed.
 ghost use mathlib.Core.Path.{_≡_};
-ghost use mathlib.Core.List.{List, [], _∷_};
 ghost use Prim.Native.Nat.{_+_, _*_, _≤_, _<_};
-ghost use lib.ListN.{getD, set};
 ghost use lib.Seq.{sets};
-ghost use mir.Val.{boolByte};
-ghost use Rattle.loops.specs.Table.{tabulate};
 ghost use Rattle.engines_c.specs.Numbers.{truth};
-ghost use Rattle.pipeline.specs.Flood.{floodLength};
-ghost use Rattle.pipeline_c.specs.Play.{playRounds, Playing};
-ghost use Rattle.pipeline_c.specs.Console.{entryNumbered, entryNumber, logAt, logNumbers, putLog, wordsAt, stateAt, statesAt, putState, putStates, piggybackNumbered, piggybackThere, piggybackNumber, piggybackOutcome, packetAt, packetsAt, packetNumbers, putPackets, txsAt, bookAt, pipeAt, playedAt, clockNumbers, headNumbers, putHead, putTxs, putPlayed, confBy, leftIn, opened};
+ghost use Rattle.flood.specs.Flood.{floodLength};
+ghost use Rattle.pipeline_c.specs.Play.{playRounds};
+ghost use Rattle.pipeline_c.specs.Console.{entryNumbered, entryNumber, logAt, logNumbers, putLog, wordsAt, stateAt, statesAt, putState, putStates, piggybackNumbered, piggybackThere, piggybackNumber, piggybackOutcome, packetAt, packetsAt, packetNumbers, putPackets, txsAt, recordsAt, partAt, playedAt, clockNumbers, headNumbers, putHead, putTxs, putPart, putPlayed, confBy, leftIn, opened};
 use super::rounds;
 use super::rounds::Played;
+use engines::network::Network;
+use engines::network::RoundConf;
 use engines::settings::Settings;
 use engines_c::numbers;
-use pipeline::flood;
-use pipeline::pipeline::Pipeline;
+use graph::network::NetworkGraph;
 use pipeline::pipeline::PipelineConf;
-use pipeline::two_pc_pipeline::Book;
+use pipeline::pipeline::PipelinePart;
 use pipeline::two_pc_pipeline::LogEntry;
 use pipeline::two_pc_pipeline::NodeTwoPcState;
 use pipeline::two_pc_pipeline::Piggyback;
+use pipeline::two_pc_pipeline::Records;
 use pipeline::two_pc_pipeline::RoundPacket;
 use pipeline::two_pc_pipeline::TxLog;
 use pipeline::two_pc_pipeline::Txs;
@@ -157,39 +155,32 @@ fn txs_of(xs: &[u64]) -> Txs
     }
 }
 
-fn book_of(xs: &[u64]) -> Book
-    ensures { λ r. ⌜ r ≡ bookAt (now (xs .entry)) ⌝ }
+fn records_of(xs: &[u64]) -> Records
+    ensures { λ r. ⌜ r ≡ recordsAt (now (xs .entry)) ⌝ }
 {
     let log = log_of(xs, 148);
     let ends = words_of(xs, 213);
-    Book { log, ends }
+    Records { log, ends }
 }
 
-fn pipe_of(xs: &[u64]) -> Pipeline
-    ensures { λ r. ⌜ r ≡ pipeAt (now (xs .entry)) ⌝ }
+fn part_of(xs: &[u64]) -> PipelinePart
+    ensures { λ r. ⌜ r ≡ partAt (now (xs .entry)) ⌝ }
 {
-    let at = numbers::nodes_of(xs, 277);
-    let metrics = numbers::metrics_of(xs, 7);
     let states = states_of(xs);
     let txs = txs_of(xs);
     let there = numbers::number(xs, 15);
     let t = numbers::number(xs, 16);
     let outcome = numbers::number(xs, 17);
     let piggyback = piggyback_numbered(there, t, outcome);
-    let book = book_of(xs);
+    let records = records_of(xs);
     let payloads = packets_of(xs);
-    Pipeline {
-        at,
-        metrics,
-        slot: numbers::number(xs, 0),
-        next: numbers::number(xs, 1),
+    PipelinePart {
         round: numbers::number(xs, 2),
-        sent: numbers::number(xs, 3),
+        stop: numbers::is_yes(numbers::number(xs, 4)),
         states,
         txs,
         piggyback,
-        stop: numbers::is_yes(numbers::number(xs, 4)),
-        book,
+        records,
         payloads,
         holding: numbers::number(xs, 18),
     }
@@ -198,13 +189,15 @@ fn pipe_of(xs: &[u64]) -> Pipeline
 fn played_of(xs: &[u64]) -> Played
     ensures { λ r. ⌜ r ≡ playedAt (now (xs .entry)) ⌝ }
 {
-    let pipe = pipe_of(xs);
+    let network = numbers::network_of(xs, 3, 7, 277);
+    let part = part_of(xs);
     Played {
         refusal: 0,
         cursor: numbers::number(xs, 6) as usize,
         used: numbers::number(xs, 5) as usize,
         count: 0,
-        pipe,
+        network,
+        part,
     }
 }
 
@@ -326,21 +319,13 @@ fn put_packets(xs: &mut [u64], payloads: [RoundPacket; 64])
     }
 }
 
-fn clock_numbers(p: Pipeline, cursor: usize, used: usize) -> [u64; 7]
+fn clock_numbers(p: PipelinePart, cursor: usize, used: usize) -> [u64; 3]
     ensures { λ r. ⌜ r ≡ clockNumbers p cursor used ⌝ }
 {
-    [
-        p.slot,
-        p.next,
-        p.round,
-        p.sent,
-        p.stop as u64,
-        used as u64,
-        cursor as u64,
-    ]
+    [p.stop as u64, used as u64, cursor as u64]
 }
 
-fn head_numbers(p: Pipeline) -> [u64; 5]
+fn head_numbers(p: PipelinePart) -> [u64; 5]
     ensures { λ r. ⌜ r ≡ headNumbers p ⌝ }
 {
     let b = p.piggyback;
@@ -354,44 +339,49 @@ fn head_numbers(p: Pipeline) -> [u64; 5]
     ]
 }
 
-fn put_head(xs: &mut [u64], p: Pipeline, cursor: usize, used: usize)
+fn put_head(xs: &mut [u64], p: PipelinePart, cursor: usize, used: usize)
     ensures { λ _. ⌜ now (xs .exit) ≡ putHead p cursor used (now (xs .entry)) ⌝ }
 {
     let clock = clock_numbers(p, cursor, used);
     let head = head_numbers(p);
-    let m = p.metrics;
-    numbers::put_run(xs, 0, 0, &clock);
-    numbers::put_metrics(xs, 7, m);
+    numbers::put(xs, 2, p.round);
+    numbers::put_run(xs, 0, 4, &clock);
     numbers::put_run(xs, 0, 15, &head);
 }
 
-fn put_txs(xs: &mut [u64], txs: Txs, book: Book)
-    ensures { λ _. ⌜ now (xs .exit) ≡ putTxs txs book (now (xs .entry)) ⌝ }
+fn put_txs(xs: &mut [u64], txs: Txs, records: Records)
+    ensures { λ _. ⌜ now (xs .exit) ≡ putTxs txs records (now (xs .entry)) ⌝ }
 {
     let starts = txs.starts;
     let rounds = txs.rounds;
-    let g = book.log;
-    let ends = book.ends;
+    let g = records.log;
+    let ends = records.ends;
     numbers::put_run(xs, 0, 20, &starts);
     numbers::put_run(xs, 0, 84, &rounds);
     put_log(xs, 148, g);
     numbers::put_run(xs, 0, 213, &ends);
 }
 
+fn put_part(xs: &mut [u64], p: PipelinePart, cursor: usize, used: usize)
+    ensures { λ _. ⌜ now (xs .exit) ≡ putPart p cursor used (now (xs .entry)) ⌝ }
+{
+    let txs = p.txs;
+    let records = p.records;
+    let states = p.states;
+    let payloads = p.payloads;
+    put_head(xs, p, cursor, used);
+    put_txs(xs, txs, records);
+    put_states(xs, states);
+    put_packets(xs, payloads);
+}
+
 pub fn put_played(xs: &mut [u64], t: Played)
     ensures { λ _. ⌜ now (xs .exit) ≡ putPlayed t (now (xs .entry)) ⌝ }
 {
-    let p = t.pipe;
-    let txs = p.txs;
-    let book = p.book;
-    let at = p.at;
-    let states = p.states;
-    let payloads = p.payloads;
-    put_head(xs, p, t.cursor, t.used);
-    put_txs(xs, txs, book);
-    numbers::put_nodes(xs, 277, at);
-    put_states(xs, states);
-    put_packets(xs, payloads);
+    let network = t.network;
+    let part = t.part;
+    numbers::put_network(xs, 3, 7, 277, network);
+    put_part(xs, part, t.cursor, t.used);
 }
 
 // ---- the entries
@@ -401,13 +391,15 @@ pub fn put_played(xs: &mut [u64], t: Played)
 pub extern "C" fn pipeline_open(state: &mut [u64])
     ensures { λ _. ⌜ now (state .exit) ≡ putPlayed opened (now (state .entry)) ⌝ }
 {
-    let pipe = Pipeline::new();
+    let network = Network::new();
+    let part = PipelinePart::new();
     let t = Played {
         refusal: 0,
         cursor: 0,
         used: 0,
         count: 0,
-        pipe,
+        network,
+        part,
     };
     put_played(state, t);
 }
@@ -422,13 +414,13 @@ pub extern "C" fn pipeline_flood_length(
 ) -> u64
     ensures { λ r. ⌜ r ≡ floodLength (truth given) slots diameter repeats ⌝ }
 {
-    flood::flood_length(numbers::is_yes(given), slots, diameter, repeats)
+    flood::flood::flood_length(numbers::is_yes(given), slots, diameter, repeats)
 }
 
 fn conf_of(
     links: &[u64],
     n: usize,
-    txs: usize,
+    transactions: usize,
     loss_rate: f64,
     abort_probability: f64,
     repeats: u32,
@@ -436,7 +428,7 @@ fn conf_of(
     interval: u64,
     bound: u64,
 ) -> PipelineConf
-    ensures { λ r. ⌜ r ≡ confBy (now (links .entry)) n txs «loss_rate» «abort_probability» repeats length interval bound ⌝ }
+    ensures { λ r. ⌜ r ≡ confBy (now (links .entry)) n transactions «loss_rate» «abort_probability» repeats length interval bound ⌝ }
 {
     let rows = words_of(links, 0);
     let settings = Settings {
@@ -449,13 +441,14 @@ fn conf_of(
         slots_given: false,
     };
     PipelineConf {
-        n,
-        links: rows,
-        settings,
-        txs,
-        interval,
+        round: RoundConf {
+            graph: NetworkGraph { n, adj: rows },
+            settings,
+            interval,
+            length,
+        },
+        transactions,
         bound,
-        length,
     }
 }
 
@@ -468,7 +461,7 @@ pub extern "C" fn pipeline_rounds(
     links: &[u64],
     rows: &mut [u64],
     n: usize,
-    txs: usize,
+    transactions: usize,
     loss_rate: f64,
     abort_probability: f64,
     repeats: u32,
@@ -477,14 +470,14 @@ pub extern "C" fn pipeline_rounds(
     bound: u64,
     rounds: u64,
 ) -> u64
-    ensures { λ r. ⌜ r ≡ playRounds (now (words .entry)) (confBy (now (links .entry)) n txs «loss_rate» «abort_probability» repeats length interval bound) rounds (record { rows = now (rows .entry); played = playedAt (now (state .entry)) }) .played .refusal ⌝ }
-    ensures { λ _. ⌜ now (rows .exit) ≡ playRounds (now (words .entry)) (confBy (now (links .entry)) n txs «loss_rate» «abort_probability» repeats length interval bound) rounds (record { rows = now (rows .entry); played = playedAt (now (state .entry)) }) .rows ⌝ }
-    ensures { λ _. ⌜ now (state .exit) ≡ leftIn (playRounds (now (words .entry)) (confBy (now (links .entry)) n txs «loss_rate» «abort_probability» repeats length interval bound) rounds (record { rows = now (rows .entry); played = playedAt (now (state .entry)) }) .played) (now (state .entry)) ⌝ }
+    ensures { λ r. ⌜ r ≡ playRounds (now (words .entry)) (confBy (now (links .entry)) n transactions «loss_rate» «abort_probability» repeats length interval bound) rounds (record { rows = now (rows .entry); played = playedAt (now (state .entry)) }) .played .refusal ⌝ }
+    ensures { λ _. ⌜ now (rows .exit) ≡ playRounds (now (words .entry)) (confBy (now (links .entry)) n transactions «loss_rate» «abort_probability» repeats length interval bound) rounds (record { rows = now (rows .entry); played = playedAt (now (state .entry)) }) .rows ⌝ }
+    ensures { λ _. ⌜ now (state .exit) ≡ leftIn (playRounds (now (words .entry)) (confBy (now (links .entry)) n transactions «loss_rate» «abort_probability» repeats length interval bound) rounds (record { rows = now (rows .entry); played = playedAt (now (state .entry)) }) .played) (now (state .entry)) ⌝ }
 {
     let conf = conf_of(
         links,
         n,
-        txs,
+        transactions,
         loss_rate,
         abort_probability,
         repeats,

@@ -1,10 +1,11 @@
 // Rounds one after the other, up to the first that is refused.
 ghost use mathlib.Core.Path.{_≡_};
-ghost use Rattle.pipeline_c.specs.Play.{countAfter, noted, playRound, playRounds, Playing};
+ghost use Rattle.pipeline_c.specs.Play.{countAfter, noted, playRound, playRounds};
+use engines::network::Network;
 use pipeline::pipeline as pipes;
-use pipeline::pipeline::Pipeline;
+use pipeline::pipeline::PipelineAnswer;
 use pipeline::pipeline::PipelineConf;
-use pipeline::pipeline::RoundAnswer;
+use pipeline::pipeline::PipelinePart;
 
 // The last round's refusal (0: none), the cursor, the rows used, how many rounds were accepted, and the room.
 pub struct Played {
@@ -12,7 +13,8 @@ pub struct Played {
     pub cursor: usize,
     pub used: usize,
     pub count: u64,
-    pub pipe: Pipeline,
+    pub network: Network,
+    pub part: PipelinePart,
 }
 
 fn count_after(count: u64, refusal: u64) -> u64
@@ -24,24 +26,27 @@ fn count_after(count: u64, refusal: u64) -> u64
     count
 }
 
-fn note(count: u64, a: RoundAnswer) -> Played
+fn note(count: u64, a: PipelineAnswer) -> Played
     ensures { λ r. ⌜ r ≡ noted count a ⌝ }
 {
-    let pipe = a.pipe;
+    let network = a.network;
+    let part = a.part;
     Played {
         refusal: a.refusal,
         cursor: a.cursor,
         used: a.used,
         count: count_after(count, a.refusal),
-        pipe,
+        network,
+        part,
     }
 }
 
 fn play_round(words: &[u64], rows: &mut [u64], conf: PipelineConf, t: Played) -> Played
     ensures { λ r. ⌜ record { rows = now (rows .exit); played = r } ≡ playRound (now (words .entry)) conf (record { rows = now (rows .entry); played = t }) ⌝ }
 {
-    let p = t.pipe;
-    let a = pipes::pipeline_round(words, t.cursor, rows, t.used, conf, p);
+    let w = t.network;
+    let p = t.part;
+    let a = pipes::pipeline_round(words, t.cursor, rows, t.used, conf, w, p);
     note(t.count, a)
 }
 

@@ -5,18 +5,20 @@
 // The answer: the last round's refusal, rounds, slot, bytes sent, cursor, stopped, listening, flooding and sleeping in all, nacks, piggybacks,
 // frames tried and received, covered, one number that depends on all positions, logs, pending votes, records and rows, and, for up to 4
 // positions, each log: how many entries, and each. An entry is its transaction, and 256 more if it was committed.
+use engines::clamp;
+use engines::network::Network;
+use engines::network::RoundConf;
 use engines::node::Node;
 use engines::node::NodeState;
 use engines::settings::Settings;
 use graph::network::NetworkGraph;
 use graph::sets;
 use merges::votes;
-use pipeline::flood;
-use pipeline::pipeline::Pipeline;
 use pipeline::pipeline::PipelineConf;
-use pipeline::two_pc_pipeline::Book;
+use pipeline::pipeline::PipelinePart;
 use pipeline::two_pc_pipeline::LogEntry;
 use pipeline::two_pc_pipeline::NodeTwoPcState;
+use pipeline::two_pc_pipeline::Records;
 use pipeline::two_pc_pipeline::TxLog;
 use pipeline::two_pc_pipeline::Txs;
 use pipeline_c::rounds;
@@ -125,10 +127,6 @@ fn of_node(d: u64, v: Node) -> u64 {
     step(e, v.slots_sleep)
 }
 
-fn atMost64(n: usize) -> usize {
-    if 64 < n { 64 } else { n }
-}
-
 fn entry_at(g: TxLog, i: usize) -> u64 {
     if i < 64 {
         let entries = g.entries;
@@ -139,7 +137,7 @@ fn entry_at(g: TxLog, i: usize) -> u64 {
 }
 
 fn of_log(d: u64, g: TxLog) -> u64 {
-    let count = atMost64(g.len);
+    let count = clamp::at_most_64(g.len);
     let mut e = step(d, g.len as u64);
     let mut i: usize = 0;
     while i < count {
@@ -171,30 +169,30 @@ fn of_pending(d: u64, s: NodeTwoPcState) -> u64 {
     e
 }
 
-fn of_position(d: u64, p: Pipeline, i: usize) -> u64 {
+fn of_position(d: u64, w: Network, p: PipelinePart, i: usize) -> u64 {
     if i >= 64 {
         return d;
     }
-    let at = p.at;
+    let nodes = w.nodes;
     let states = p.states;
-    let v = at[i];
+    let v = nodes[i];
     let s = states[i];
     let g = s.log;
     of_pending(of_log(of_node(d, v), g), s)
 }
 
-fn of_positions(d: u64, p: Pipeline, n: usize) -> u64 {
-    let count = atMost64(n);
+fn of_positions(d: u64, w: Network, p: PipelinePart, n: usize) -> u64 {
+    let count = clamp::at_most_64(n);
     let mut e = d;
     let mut i: usize = 0;
     while i < count {
-        e = of_position(e, p, i);
+        e = of_position(e, w, p, i);
         i += 1;
     }
     e
 }
 
-fn of_record(d: u64, b: Book, txs: Txs, i: usize) -> u64 {
+fn of_record(d: u64, b: Records, txs: Txs, i: usize) -> u64 {
     if i >= 64 {
         return d;
     }
@@ -210,9 +208,9 @@ fn of_record(d: u64, b: Book, txs: Txs, i: usize) -> u64 {
     step(step(step(d, entry_number(e)), starts[t]), ends[t])
 }
 
-fn of_records(d: u64, b: Book, txs: Txs) -> u64 {
+fn of_records(d: u64, b: Records, txs: Txs) -> u64 {
     let g = b.log;
-    let count = atMost64(g.len);
+    let count = clamp::at_most_64(g.len);
     let mut e = d;
     let mut i: usize = 0;
     while i < count {
@@ -267,7 +265,7 @@ fn add_node(s: Sums, at: [Node; 64], i: usize) -> Sums {
 }
 
 fn sum_up(at: [Node; 64], n: usize) -> Sums {
-    let count = atMost64(n);
+    let count = clamp::at_most_64(n);
     let mut s = Sums {
         listen: 0,
         flood: 0,
@@ -282,7 +280,7 @@ fn sum_up(at: [Node; 64], n: usize) -> Sums {
 }
 
 fn say_log(g: TxLog) {
-    let count = atMost64(g.len);
+    let count = clamp::at_most_64(g.len);
     say(g.len as u64);
     let mut i: usize = 0;
     while i < count {
@@ -291,7 +289,7 @@ fn say_log(g: TxLog) {
     }
 }
 
-fn say_log_of(p: Pipeline, i: usize) {
+fn say_log_of(p: PipelinePart, i: usize) {
     if i < 64 {
         let states = p.states;
         let s = states[i];
@@ -300,7 +298,7 @@ fn say_log_of(p: Pipeline, i: usize) {
     }
 }
 
-fn say_logs(p: Pipeline, n: usize) {
+fn say_logs(p: PipelinePart, n: usize) {
     if n > 4 {
         return;
     }
@@ -336,26 +334,28 @@ fn conf_of(at: [u64; 32], g: NetworkGraph, diameter: usize) -> PipelineConf {
         round_slots: 0,
         slots_given: false,
     };
-    let links = g.adj;
     PipelineConf {
-        n: g.n,
-        links,
-        settings,
-        txs: at[3] as usize,
-        interval: at[13],
+        round: RoundConf {
+            graph: g,
+            settings,
+            interval: at[13],
+            length: flood::flood::flood_length(at[5] != 0, at[6], diameter, repeats),
+        },
+        transactions: at[3] as usize,
         bound: at[14],
-        length: flood::flood_length(at[5] != 0, at[6], diameter, repeats),
     }
 }
 
 fn opened(cursor: u64, used: u64) -> Played {
-    let pipe = Pipeline::new();
+    let network = Network::new();
+    let part = PipelinePart::new();
     Played {
         refusal: 0,
         cursor: cursor as usize,
         used: used as usize,
         count: 0,
-        pipe,
+        network,
+        part,
     }
 }
 
@@ -378,16 +378,17 @@ fn play(
 }
 
 fn say_counts(t: Played, n: usize) {
-    let p = t.pipe;
-    let m = p.metrics;
+    let w = t.network;
+    let p = t.part;
+    let m = w.metrics;
     io::print_decimal(1, t.refusal);
     say(m.flood_rounds);
-    say(p.slot);
-    say(p.sent);
+    say(w.slot);
+    say(w.bytes_sent);
     say(t.cursor as u64);
     say(p.stop as u64);
-    let at = p.at;
-    let s = sum_up(at, n);
+    let nodes = w.nodes;
+    let s = sum_up(nodes, n);
     say(s.listen);
     say(s.flood);
     say(s.sleep);
@@ -425,10 +426,11 @@ fn answer(l: Line) {
         at[20],
     );
     say_counts(t, n);
-    let p = t.pipe;
+    let w = t.network;
+    let p = t.part;
     let txs = p.txs;
-    let book = p.book;
-    let all = of_records(of_positions(0, p, n), book, txs);
+    let records = p.records;
+    let all = of_records(of_positions(0, w, p, n), records, txs);
     say(of_rows(all, &rows, used, t.used));
     say_logs(p, n);
     io::write_all(1, b"\n");

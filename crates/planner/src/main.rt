@@ -1,30 +1,26 @@
 // Reads frames from standard input, one to a line, and prints the listing line of each.
-ghost use mathlib.Core.Path.{_≡_};
-ghost use Prim.Native.Nat.{_+_, _≤_, _<_};
+ghost use Prim.Native.Nat.{_≤_, _<_};
 ghost use lib.ListN.{length};
-use frame::listing;
+ghost use Rattle.frame.specs.Bounds.{keptBytes, frameWords, endedBytes};
+use frame::bounds;
+use lines::feed;
 
-// A line's bytes and one more: a line that fills all of it has more digits than a frame may have, whatever follows.
-const ROOM: usize = 60001;
-
-// The longest listing line, and its end.
-const LISTED: usize = 277;
+// What is kept of a line, and room behind it to read on.
+const INPUT: usize = 73728;
 
 // Listing lines are gathered here and written together.
-const OUT: usize = 16384;
+const OUTPUT: usize = 8192;
 
-// How many bytes of the present line there are, how many of listing lines that are not yet written, and whether some could not be.
-struct Progress {
-    count: usize,
-    used: usize,
+// Where the present line begins, and whether the answers before it could not be written.
+struct Answered {
+    from: usize,
     failed: bool,
 }
 
-// What a turn of the reading loop leaves.
-enum Turn {
-    More(usize),
-    End(usize),
-    Broken,
+// How many bytes of the present line there are, and whether nothing more is read.
+struct Turn {
+    n: usize,
+    over: bool,
 }
 
 // Writes what is gathered. If that fails nobody reads the lines, and standard error says so.
@@ -37,177 +33,102 @@ fn flush(out: &[u8], used: usize) -> bool
     if io::write_all(1, &out[0..used]) {
         return true;
     }
-    os::fail(b"planner");
+    os::fail(b"planner: cannot write");
     false
 }
 
-fn end_line(out: &mut [u8], end: usize) -> usize
-    requires { ⌜ end < length (now out) ⌝ }
-    ensures { λ r. ⌜ r ≤ length (now (out .entry)) ⌝ }
+// What a read brought is answered before the next read: who waits for a line's answer gets it. Where the output is full
+// it is written, and filled anew.
+fn answer(text: &[u8], n: usize, words: &mut [u64], out: &mut [u8]) -> Answered
+    requires { ⌜ (n ≤ length (now text)) × (frameWords ≤ length (now words)) × (endedBytes ≤ length (now out)) ⌝ }
+    ensures { λ r. ⌜ r .from ≤ length (now (text .entry)) ⌝ }
 {
-    out[end] = 10;
-    end + 1
-}
-
-// The listing line of the first n bytes, behind what is gathered.
-fn list(line: &[u8], n: usize, out: &mut [u8], used: usize) -> usize
-    requires { ⌜ (n ≤ length (now line)) × (used + 277 ≤ length (now out)) ⌝ }
-    ensures { λ r. ⌜ r ≤ length (now (out .entry)) ⌝ }
-{
-    let listed = listing::list_frame(&line[0..n], &mut out[used..]);
-    if listed.len < LISTED {
-        return end_line(out, used + listed.len);
-    }
-    used
-}
-
-// A line is answered. Where the answer might not fit, what is gathered is written first.
-fn answer(line: &[u8], n: usize, out: &mut [u8], used: usize) -> Progress
-    requires { ⌜ (n ≤ length (now line)) × (used ≤ length (now out)) × (277 ≤ length (now out)) ⌝ }
-    ensures { λ r. ⌜ (r .count ≡ 0) × (r .used ≤ length (now (out .entry))) ⌝ }
-{
-    if LISTED <= out.len() - used {
-        return Progress {
-            count: 0,
-            used: list(line, n, out, used),
-            failed: false,
-        };
-    }
-    if flush(out, used) {
-        return Progress {
-            count: 0,
-            used: list(line, n, out, 0),
-            failed: false,
-        };
-    }
-    Progress {
-        count: 0,
-        used: 0,
-        failed: true,
-    }
-}
-
-// A byte more of the present line. What does not fit is read and dropped.
-fn push(line: &mut [u8], n: usize, b: u8) -> usize
-    requires { ⌜ n ≤ length (now line) ⌝ }
-    ensures { λ r. ⌜ r ≤ length (now (line .entry)) ⌝ }
-{
-    if n < line.len() {
-        line[n] = b;
-        n + 1
-    } else {
-        n
-    }
-}
-
-// One byte of the input: it ends the line, or joins it.
-fn take_byte(line: &mut [u8], out: &mut [u8], p: Progress, b: u8) -> Progress
-    requires { ⌜ (p .count ≤ length (now line)) × (p .used ≤ length (now out)) × (277 ≤ length (now out)) ⌝ }
-    ensures { λ r. ⌜ (r .count ≤ length (now (line .entry))) × (r .used ≤ length (now (out .entry))) ⌝ }
-{
-    if p.failed {
-        return p;
-    }
-    if b == 10 {
-        return answer(line, p.count, out, p.used);
-    }
-    Progress {
-        count: push(line, p.count, b),
-        used: p.used,
-        failed: false,
-    }
-}
-
-fn feed(line: &mut [u8], out: &mut [u8], n: usize, chunk: &[u8]) -> Progress
-    requires { ⌜ (n ≤ length (now line)) × (277 ≤ length (now out)) ⌝ }
-    ensures { λ r. ⌜ (r .count ≤ length (now (line .entry))) × (r .used ≤ length (now (out .entry))) ⌝ }
-{
-    let mut p = Progress {
-        count: n,
-        used: 0,
-        failed: false,
-    };
-    let mut i: usize = 0;
-    while i < chunk.len() {
-        p = take_byte(line, out, p, chunk[i]);
-        i += 1;
-    }
-    p
-}
-
-// What a read brought is answered before the next read: who waits for a line's answer gets it.
-fn feed_turn(line: &mut [u8], n: usize, chunk: &[u8]) -> Turn
-    requires { ⌜ n ≤ length (now line) ⌝ }
-{
-    let mut out = [0u8; OUT];
-    let p = feed(line, &mut out, n, chunk);
-    if p.failed {
-        return Turn::Broken;
-    }
-    if flush(&out, p.used) {
-        return Turn::More(p.count);
-    }
-    Turn::Broken
-}
-
-// One read, which may bring few bytes. A read that a signal cut short is made again; one that fails ends the program, and standard error says so: of a line
-// that could not be read to its end nothing is listed.
-fn one_turn(line: &mut [u8], n: usize) -> Turn {
-    if line.len() < n {
-        return Turn::Broken;
-    }
-    let mut chunk = io::buffer();
-    let got = libc::read(0, &mut chunk);
-    if got < 0 {
-        if os::errno() == libc::EINTR {
-            return Turn::More(n);
+    let mut from: usize = 0;
+    let mut at = n;
+    while at < text.len() {
+        let fed = feed::feed(&text[from..], at - from, words, out, 0);
+        if !flush(out, fed.used) {
+            return Answered { from, failed: true };
         }
-        os::fail(b"planner");
-        return Turn::Broken;
+        at = from + fed.at;
+        from += fed.from;
+    }
+    Answered {
+        from,
+        failed: false,
+    }
+}
+
+fn end_with(n: usize) -> Turn
+    requires { ⌜ n ≤ keptBytes ⌝ }
+    ensures { λ r. ⌜ r .n ≤ keptBytes ⌝ }
+{
+    Turn { n, over: true }
+}
+
+// A read that a signal cut short is made again; one that fails ends the program, and standard error says so: of a line
+// that could not be read to its end nothing is listed.
+fn not_read(n: usize) -> Turn
+    requires { ⌜ n ≤ keptBytes ⌝ }
+    ensures { λ r. ⌜ r .n ≤ keptBytes ⌝ }
+{
+    if os::errno() == libc::EINTR {
+        return Turn { n, over: false };
+    }
+    os::fail(b"planner: cannot read");
+    end_with(0)
+}
+
+// One read behind the n bytes of the present line, which may bring few bytes.
+fn one_turn(buf: &mut [u8], n: usize, words: &mut [u64], out: &mut [u8]) -> Turn
+    requires { ⌜ (n ≤ keptBytes) × (keptBytes < length (now buf)) × (frameWords ≤ length (now words)) × (endedBytes ≤ length (now out)) ⌝ }
+    ensures { λ r. ⌜ r .n ≤ keptBytes ⌝ }
+{
+    let got = libc::read(0, &mut buf[n..]);
+    if got < 0 {
+        return not_read(n);
     }
     if got == 0 {
-        return Turn::End(n);
+        return end_with(n);
     }
-    let c = io::count(got, &chunk);
-    feed_turn(line, n, &chunk[..c])
+    let end = n + io::count(got, &buf[n..]);
+    let answered = answer(&buf[0..end], n, words, out);
+    if answered.failed {
+        return end_with(0);
+    }
+    Turn {
+        n: feed::keep(&mut buf[0..end], answered.from),
+        over: false,
+    }
 }
 
 // The bytes of a last line that has no end; 0 if there is none.
-fn read_all(line: &mut [u8]) -> usize {
+fn read_all(buf: &mut [u8], words: &mut [u64], out: &mut [u8]) -> usize
+    requires { ⌜ (keptBytes < length (now buf)) × (frameWords ≤ length (now words)) × (endedBytes ≤ length (now out)) ⌝ }
+    ensures { λ r. ⌜ r ≤ keptBytes ⌝ }
+{
     let mut turns = u64::MAX;
-    let mut n = 0;
+    let mut n: usize = 0;
     while turns > 0 {
         turns -= 1;
-        let t = one_turn(line, n);
-        match t {
-            Turn::More(k) => {
-                n = k;
-            }
-            Turn::End(k) => {
-                return k;
-            }
-            Turn::Broken => {
-                return 0;
-            }
+        let t = one_turn(buf, n, words, out);
+        n = t.n;
+        if t.over {
+            return n;
         }
     }
     n
 }
 
-fn answer_last(line: &[u8], n: usize) -> bool
-    requires { ⌜ n ≤ length (now line) ⌝ }
-{
-    let mut out = [0u8; LISTED];
-    let used = list(line, n, &mut out, 0);
-    flush(&out, used)
+fn answer_last(line: &[u8], words: &mut [u64], out: &mut [u8]) {
+    let last = feed::finish(line, words, out);
+    flush(out, last.len);
 }
 
 fn main() {
-    let mut line = [0u8; ROOM];
-    let n = read_all(&mut line);
-    if 0 < n {
-        if n <= line.len() {
-            answer_last(&line, n);
-        }
-    }
+    let mut buf = [0u8; INPUT];
+    let mut words = [0u64; bounds::WORDS];
+    let mut out = [0u8; OUTPUT];
+    let n = read_all(&mut buf, &mut words, &mut out);
+    answer_last(&buf[0..n], &mut words, &mut out);
 }

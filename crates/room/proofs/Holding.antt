@@ -19,9 +19,9 @@ use Rattle.merges.specs.declared.merging.Merged.{Merged}
 use Rattle.merges.proofs.Safety.{either-cases, merges-sound}
 use Rattle.merges.proofs.Growth.{merges-grow, merges-keep-term, empty-adopts, nothing-heard}
 use Rattle.merges.proofs.Limits.{merges-valid}
-use Rattle.engines.specs.Limits.{atMost64}
-use Rattle.engines.specs.Ce.{hearingOf, toldAt, toldAll}
-use Rattle.engines.specs.declared.ce.SlotMerges.{SlotMerges}
+use Rattle.engines.specs.Clamp.{atMost64}
+use Rattle.capture.specs.Ce.{hearingOf, toldAt, toldAll}
+use Rattle.capture.specs.declared.ce.SlotMerges.{SlotMerges}
 
 -- ---- the order of packets
 

@@ -1,5 +1,4 @@
 pub mod Answers
-pub mod Counting
 pub mod Holding
 pub mod Moments
 pub mod Calling

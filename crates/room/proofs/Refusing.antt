@@ -7,14 +7,17 @@ use lib.Dec.{eqb}
 use lib.ListN.{length}
 use Rattle.loops.specs.Pick.{either}
 use Rattle.merges.proofs.Safety.{either-cases}
-use Rattle.engines.specs.Capture.{startOf, refusalOf, answerOf, bufferOf}
-use Rattle.engines.specs.declared.capture.CeAnswer.{CeAnswer}
-use Rattle.pipeline.specs.Round.{runRound, earlyRefusal, lateRefusal, startDraw, lateAnswer, roundAnswer, lateBuffer, roundBuffer}
-use Rattle.pipeline.specs.declared.pipeline.RoundAnswer.{RoundAnswer}
+use Rattle.capture.specs.Capture.{startOf, refusalOf, answerOf, bufferOf}
+use Rattle.capture.specs.declared.capture.CeAnswer.{CeAnswer}
+use Rattle.pipeline.specs.Round.{roundRefusal, roundAnswer, roundBuffer}
+use Rattle.pipeline.specs.declared.pipeline.PipelineAnswer.{PipelineAnswer}
 use Rattle.room.specs.declared.room.Room.{Room}
-use Rattle.room.specs.declared.room.Round.{Round}
-use Rattle.room.specs.declared.room.Proposal.{Proposal}
-use Rattle.room.specs.Rooms.{sizeOf, proposeRefusal, proposeOf, ceConf, ceState, captureEarly, refusedRound, capturedBy, captureOf, captureBuffer, pipeConf, pipeOf, pipelineEarly, ranBy, pipelineOf, pipelineBuffer}
+use Rattle.room.specs.declared.room.RoundAnswer.{RoundAnswer}
+use Rattle.room.specs.declared.capture_calls.Proposed.{Proposed}
+use Rattle.room.specs.declared.capture_calls.Captured.{Captured}
+use Rattle.room.specs.Capturing.{proposeRefusal, proposePart, captureRefusal, ceState, capturedBy, capturePart, captureRows}
+use Rattle.room.specs.Pipelining.{pipeConf, pipelineRefusal, pipelinePart, pipelineRows}
+use Rattle.room.specs.Rooms.{withCapture, proposeOf, captured, captureOf, captureBuffer, ran, pipelineOf, pipelineBuffer}
 use Rattle.room.specs.Refused.{AsBefore, Leaves, RefusedLeaves}
 
 -- an answer and a buffer by one test
@@ -23,45 +26,43 @@ both P true f g = f refl
 both P false f g = g refl
 
 propose-leaves : (r : Room) (v : ℕ) → (proposeOf r v .refusal ≡ 0 → ⊥) → proposeOf r v .room ≡ r
-unfolding proposeOf
+unfolding proposeOf proposePart
 propose-leaves r v =
-    either-cases (λ (a : Proposal). (a .refusal ≡ 0 → ⊥) → a .room ≡ r) (eqb (proposeRefusal (sizeOf r) v (r .conf .kind) (r .terms .term)) 0)
+    either-cases (λ (a : Proposed). (a .refusal ≡ 0 → ⊥) → withCapture r (r .network) (a .part) ≡ r) (eqb (proposeRefusal (r .conf) (r .capture) v) 0)
     (λ e h. absurd (h refl))
     (λ e h. refl)
 
 module _ (ws rows : List ℕ) (used : ℕ) (r : Room) (cursor : ℕ) where
-  abbrev Fine : Round → List ℕ → Type 0
+  abbrev Fine : RoundAnswer → List ℕ → Type 0
   Fine = Leaves r cursor used rows
 
   -- what stands beside any refusal
-  kept : {k : ℕ} → AsBefore r cursor used rows (refusedRound k r cursor used) rows
+  kept : {k : ℕ} → AsBefore r cursor used rows (record { refusal = k; cursor = cursor; used = used; room = r }) rows
   kept = record { room = refl; cursor = refl; used = refl; rows = refl }
 
   capture-leaves : Fine (captureOf ws (length rows) used r cursor) (captureBuffer ws rows used r cursor)
-  unfolding captureOf captureBuffer capturedBy answerOf bufferOf
+  unfolding captureOf capturePart captureRows capturedBy answerOf bufferOf
   capture-leaves =
-      both Fine (eqb (captureEarly r) 0)
-      (λ d. both (λ (a : CeAnswer) (left : List ℕ). Fine (capturedBy r cursor used a) left) (eqb k 0)
+      both (λ (a : Captured) (left : List ℕ). Fine (captured r a) left) (eqb (captureRefusal (r .conf) (r .capture) (r .network .slot)) 0)
+      (λ d. both (λ (a : CeAnswer) (left : List ℕ). Fine (captured r (capturedBy (r .conf) (r .network) (r .capture) cursor used a)) left) (eqb k 0)
       (λ e h. absurd (h refl))
       (λ e. rw e (λ h. kept)))
       (λ d h. kept)
     where
       k : ℕ
-      k = refusalOf ws (r .conf .graph .adj) (length rows) used (ceConf (r .conf)) (startOf (ceConf (r .conf)) (r .terms .initiator) cursor (ceState r)) (r .conf .length)
+      k = refusalOf ws (length rows) used (r .conf .round) (startOf (r .conf .round) (r .capture .initiator) cursor (ceState (r .network) (r .capture)))
 
   pipeline-leaves : Fine (pipelineOf ws (length rows) used r cursor) (pipelineBuffer ws rows used r cursor)
-  unfolding pipelineOf pipelineBuffer ranBy roundAnswer roundBuffer lateAnswer lateBuffer
+  unfolding pipelineOf pipelinePart pipelineRows roundAnswer roundBuffer
   pipeline-leaves =
-      both Fine (eqb (pipelineEarly r) 0)
-      (λ d. both Told (eqb (earlyRefusal (pipeConf (r .conf)) (pipeOf r)) 0)
-      (λ e. both Told (eqb (lateRefusal (length rows) used (runRound ws (pipeConf (r .conf)) (pipeOf r) (startDraw cursor))) 0)
-      (λ f h. absurd (h refl))
-      (λ f h. kept))
+      both Told (eqb (pipelineRefusal (r .conf) (r .pipeline) (r .network .slot)) 0)
+      (λ d. both Told (eqb (roundRefusal ws (length rows) used (pipeConf (r .conf)) (r .network) (r .pipeline) cursor) 0)
+      (λ e h. absurd (h refl))
       (λ e h. kept))
       (λ d h. kept)
     where
-      Told : RoundAnswer → List ℕ → Type 0
-      Told a left = Fine (ranBy r a) left
+      Told : PipelineAnswer → List ℕ → Type 0
+      Told a left = Fine (ran r a) left
 
 pub refused-leaves : RefusedLeaves
 refused-leaves = record { propose = propose-leaves; capture = capture-leaves; pipeline = pipeline-leaves }

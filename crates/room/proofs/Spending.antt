@@ -7,32 +7,43 @@ use native.Mathlib.Omega.{arith}
 use lib.Dec.{eqb, ltb}
 use borrow.Author.Tests.{ltb-false, eqb-true}
 use Rattle.loops.specs.Pick.{either}
-use Rattle.graph.specs.Links.{rowsOf}
+use Rattle.limits.specs.Limits.{transactions}
+use Rattle.graph.specs.Links.{graphRefusal}
+use Rattle.merges.proofs.Safety.{either-cases}
+use Rattle.engines.specs.Network.{orElse}
 use Rattle.engines.specs.Settings.{lossAccepted}
-use Rattle.engines.specs.declared.settings.Settings.{Settings}
-use Rattle.pipeline.specs.Round.{newPipeline}
+use Rattle.pipeline.specs.Round.{newPart}
+use Rattle.engines.specs.declared.network.Network.{Network}
+use Rattle.pipeline.specs.declared.pipeline.PipelinePart.{PipelinePart}
+use Rattle.pipeline.specs.declared.pipeline.PipelineAnswer.{PipelineAnswer}
 use Rattle.pipeline.proofs.Ending.{Spent, spent-few, accepted, spent-refused, answer-spent}
-use Rattle.room.specs.declared.room.RoomKind.{RoomKind}
 use Rattle.room.specs.declared.room.Room.{Room}
-use Rattle.room.specs.declared.room.Round.{Round}
-use Rattle.room.specs.declared.room.Proposal.{Proposal}
+use Rattle.room.specs.declared.room.RoomConf.{RoomConf}
+use Rattle.room.specs.declared.room.Asked.{Asked}
+use Rattle.room.specs.declared.room.RoundAnswer.{RoundAnswer}
 use Rattle.room.specs.declared.room.Opening.{Opening}
-use Rattle.room.specs.Rooms.{isPipeline, sizeOf, openRefusal, confOf, noConf, newRoom, openOf, proposeRefusal, proposedIn, withTerms, proposeOf, afterCapture, captureEarly, refusedRound, ceAnswer, capturedBy, captureOf, pipeConf, pipeOf, pipelineEarly, pipeAnswer, ranBy, pipelineOf}
+use Rattle.room.specs.Kinds.{isPipeline}
+use Rattle.room.specs.Pipelining.{pipeConf, pipelineRefusal, pipelinePart}
+use Rattle.room.specs.Rooms.{openRefusal, newRoom, openOf, proposeOf, captureOf, pipelineOf}
 
 -- a room of at most t transactions, within the limits, that has accepted k rounds
 pub record Within (t k : ℕ) (r : Room) : Type 0 where
   pub transactions : r .conf .transactions ≤ t
-  pub atMost64 : r .conf .transactions ≤ 64
-  pub spent : Spent (r .conf .transactions) k (r .rounds .stop) (r .rounds .round)
+  pub bounded : r .conf .transactions ≤ 64
+  pub spent : Spent (r .conf .transactions) k (r .pipeline .stop) (r .pipeline .round)
 
--- such rooms are few rounds old, and one that goes on has a round left
+-- such rooms are few rounds old
 pub within-few : {t k : ℕ} {r : Room} → Within t k r → k ≤ t + 1002
-within-few {t} {k} {r} w = omega (arith, w .transactions, spent-few (r .conf .transactions) k (r .rounds .stop) (r .rounds .round) (w .spent))
+within-few {t} {k} {r} w = omega (arith, w .transactions, spent-few (r .conf .transactions) k (r .pipeline .stop) (r .pipeline .round) (w .spent))
 
-pub within-going : {t k : ℕ} {r : Room} → r .rounds .stop ≡ false → Within t k r → k ≤ t + 1001
+-- one that goes on has a round left
+pub spent-going : (t k r : ℕ) → Spent t k false r → k ≤ t + 1001
+spent-going t k r s = omega (arith, s .0, s .1)
+
+pub within-going : {t k : ℕ} {r : Room} → r .pipeline .stop ≡ false → Within t k r → k ≤ t + 1001
 within-going {t} {k} {r} e w =
-    let s : Spent (r .conf .transactions) k false (r .rounds .round) = subst (λ (b : Bool). Spent (r .conf .transactions) k b (r .rounds .round)) e (w .spent) in
-    omega (arith, w .transactions, s .0, s .1)
+    let s : Spent (r .conf .transactions) k false (r .pipeline .round) = subst (λ (b : Bool). Spent (r .conf .transactions) k b (r .pipeline .round)) e (w .spent) in
+    omega (arith, w .transactions, spent-going (r .conf .transactions) k (r .pipeline .round) s)
 
 pub more : {t k : ℕ} {r : Room} → Within t k r → Within t (k + 0) r
 more {t} {k} {r} w = subst (λ (j : ℕ). Within t j r) (none k) w
@@ -40,53 +51,35 @@ more {t} {k} {r} w = subst (λ (j : ℕ). Within t j r) (none k) w
     none : (j : ℕ) → j ≡ j + 0
     none j = omega arith
 
+-- a round on the parts of a room counts if it is accepted
+pub part-spent : (ws : List ℕ) (numbers used : ℕ) (c : RoomConf) (w : Network) (p : PipelinePart) (cursor k : ℕ) → c .transactions ≤ 64 → Spent (c .transactions) k (p .stop) (p .round)
+    → Spent (c .transactions) (k + accepted (pipelinePart ws numbers used c w p cursor .refusal)) (pipelinePart ws numbers used c w p cursor .part .stop) (pipelinePart ws numbers used c w p cursor .part .round)
+unfolding pipelinePart
+part-spent ws numbers used c w p cursor k bounded s =
+    either-cases (λ (a : PipelineAnswer). Spent (c .transactions) (k + accepted (a .refusal)) (a .part .stop) (a .part .round)) (eqb early 0)
+    (λ e. answer-spent ws numbers used (pipeConf c) w p cursor k bounded s)
+    (λ e. spent-refused (c .transactions) k (p .stop) (p .round) early e s)
+  where
+    early : ℕ
+    early = pipelineRefusal c p (w .slot)
+
 module _ (t k : ℕ) (r : Room) (w : Within t k r) where
+  -- the calls of a capture room leave the part of a pipeline
   pub propose-within : (v : ℕ) → Within t (k + 0) (proposeOf r v .room)
   unfolding proposeOf
-  propose-within v = by (eqb m 0)
-    where
-      m : ℕ
-      m = proposeRefusal (sizeOf r) v (r .conf .kind) (r .terms .term)
-
-      by : (b : Bool) → Within t (k + 0) (either {A = Proposal} b (record { refusal = 0; room = withTerms r (proposedIn (r .conf) (r .terms) v) }) (record { refusal = m; room = r }) .room)
-      by true = let x = more w in record { transactions = x .transactions; atMost64 = x .atMost64; spent = x .spent }
-      by false = more w
+  propose-within v = let x = more w in record { transactions = x .transactions; bounded = x .bounded; spent = x .spent }
 
   pub capture-within : (ws : List ℕ) (numbers used cursor : ℕ) → Within t (k + 0) (captureOf ws numbers used r cursor .room)
-  unfolding captureOf capturedBy afterCapture
-  capture-within ws numbers used cursor = early (eqb (captureEarly r) 0)
-    where
-      x : Within t (k + 0) r
-      x = more w
+  unfolding captureOf
+  capture-within ws numbers used cursor = let x = more w in record { transactions = x .transactions; bounded = x .bounded; spent = x .spent }
 
-      late : (b : Bool) → Within t (k + 0) (either {A = Round} b (record { refusal = 0; cursor = ceAnswer ws numbers used r cursor .state .draw .at; used = ceAnswer ws numbers used r cursor .used; room = afterCapture r (ceAnswer ws numbers used r cursor .state) }) (refusedRound (ceAnswer ws numbers used r cursor .refusal) r cursor used) .room)
-      late true = record { transactions = x .transactions; atMost64 = x .atMost64; spent = x .spent }
-      late false = x
-
-      early : (b : Bool) → Within t (k + 0) (either b (capturedBy r cursor used (ceAnswer ws numbers used r cursor)) (refusedRound (captureEarly r) r cursor used) .room)
-      early true = late (eqb (ceAnswer ws numbers used r cursor .refusal) 0)
-      early false = x
-
-  abbrev pub After : Round → Type 0
+  abbrev pub After : RoundAnswer → Type 0
   After a = Within t (k + accepted (a .refusal)) (a .room)
 
   pub pipeline-within : (ws : List ℕ) (numbers used cursor : ℕ) → After (pipelineOf ws numbers used r cursor)
-  unfolding pipelineOf ranBy
-  pipeline-within ws numbers used cursor = by (eqb (pipelineEarly r) 0) refl
-    where
-      by : (b : Bool) → eqb (pipelineEarly r) 0 ≡ b → After (either b (ranBy r (pipeAnswer ws numbers used r cursor)) (refusedRound (pipelineEarly r) r cursor used))
-      by true e =
-          record {
-            transactions = w .transactions;
-            atMost64 = w .atMost64;
-            spent = answer-spent ws numbers used (pipeConf (r .conf)) (pipeOf r) cursor k (w .atMost64) (w .spent);
-          }
-      by false e =
-          record {
-            transactions = w .transactions;
-            atMost64 = w .atMost64;
-            spent = spent-refused (r .conf .transactions) k (r .rounds .stop) (r .rounds .round) (pipelineEarly r) e (w .spent);
-          }
+  unfolding pipelineOf
+  pipeline-within ws numbers used cursor =
+      record { transactions = w .transactions; bounded = w .bounded; spent = part-spent ws numbers used (r .conf) (r .network) (r .pipeline) cursor k (w .bounded) (w .spent) }
 
 -- ---- the opening
 
@@ -99,28 +92,23 @@ last : (b : Bool) (m : ℕ) → eqb (either b (suc m) 0) 0 ≡ true → b ≡ fa
 last true m h = absurd (let e = eqb-true (suc m) 0 h in omega arith)
 last false m h = refl
 
-links-passed : (links rest : ℕ) → eqb (either (not (eqb links 0)) links rest) 0 ≡ true → eqb rest 0 ≡ true
+links-passed : (links rest : ℕ) → eqb (orElse links rest) 0 ≡ true → eqb rest 0 ≡ true
 links-passed links rest h = by (eqb links 0) refl h
   where
-    by : (b : Bool) → eqb links 0 ≡ b → eqb (either (not b) links rest) 0 ≡ true → eqb rest 0 ≡ true
+    by : (b : Bool) → eqb links 0 ≡ b → eqb (either b rest links) 0 ≡ true → eqb rest 0 ≡ true
     by true e q = q
     by false e q = absurd (let z : _≡_ {A = ℕ} 0 1 = cc in omega arith)
 
-few-transactions : (kind : RoomKind) (links : ℕ) (s : Settings) (transactions interval : ℕ) → eqb (openRefusal kind links s transactions interval) 0 ≡ true → transactions ≤ 64
+few-transactions : (a : Asked) → eqb (openRefusal a) 0 ≡ true → a .transactions ≤ 64
 unfolding openRefusal
-few-transactions kind links s transactions interval h =
-    ltb-false 64 transactions
-    (last (ltb 64 transactions) 6
-    (passed (eqb interval 0) 5 _ (passed (isPipeline kind && eqb (s .«flood_repeats») 0) 4 _ (passed (not (lossAccepted (s .«loss_rate»))) 3 _ (links-passed links _ h)))))
+few-transactions a h =
+    ltb-false transactions (a .transactions)
+    (last (ltb transactions (a .transactions)) 6
+    (passed (eqb (a .interval) 0) 5 _ (passed (isPipeline (a .kind) && eqb (a .settings .«flood_repeats») 0) 4 _ (passed (not (lossAccepted (a .settings .«loss_rate»))) 3 _ (links-passed (graphRefusal (a .graph)) _ h)))))
 
-pub opened-within : (kind : RoomKind) (links : List ℕ) (s : Settings) (transactions term interval bound : ℕ) → Within transactions 0 (openOf kind links s transactions term interval bound .room)
-unfolding openOf newRoom newPipeline
-opened-within kind links s transactions term interval bound = by (eqb m 0) refl
-  where
-    m : ℕ
-    m = openRefusal kind (rowsOf links .refusal) s transactions interval
-
-    by : (b : Bool) → eqb m 0 ≡ b
-        → Within transactions 0 (either {A = Opening} b (record { refusal = 0; room = newRoom (confOf kind (rowsOf links .graph) s transactions interval bound) term }) (record { refusal = m; room = newRoom (noConf kind s) 0 }) .room)
-    by true e = record { transactions = omega arith; atMost64 = few-transactions kind (rowsOf links .refusal) s transactions interval e; spent = (refl, omega arith) }
-    by false e = record { transactions = omega arith; atMost64 = omega arith; spent = (refl, omega arith) }
+pub opened-within : (a : Asked) → Within (a .transactions) 0 (openOf a .room)
+unfolding openOf newRoom newPart
+opened-within a =
+    either-cases (λ (x : Opening). Within (a .transactions) 0 (x .room)) (eqb (openRefusal a) 0)
+    (λ e. record { transactions = omega arith; bounded = few-transactions a e; spent = (refl, omega arith) })
+    (λ e. record { transactions = omega arith; bounded = omega arith; spent = (refl, omega arith) })

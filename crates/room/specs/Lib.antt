@@ -1,4 +1,6 @@
+pub mod Kinds
+pub mod Capturing
+pub mod Pipelining
 pub mod Rooms
-pub mod Readings
 pub mod Slots
 pub mod Refused

@@ -1,17 +1,20 @@
--- The slots of an accepted round as rooms: the room after each of them. In a flood its metrics, its packets and who holds one are still those of the round's start: they are
--- put together at its end, and demand 3 reads none of them. Assumes nothing: these are definitions.
+-- The slots of an accepted round as rooms: the room after each of them. In a flood packets and who holds one are still those of the round's start: they are put
+-- together at its end, and demand 3 reads none of them. Assumes nothing: these are definitions.
 use Prim.Native.Nat.{ℕ, zero, suc}
 use mathlib.Core.Bool.{Bool, true, false}
 use mathlib.Core.List.{List, [], _∷_, map}
 use lib.ListN.{set}
-use Rattle.engines.specs.Capture.{over, slotOf, startOf}
-use Rattle.pipeline.specs.Flood.{isOver, floodSlot}
-use Rattle.pipeline.specs.Round.{initiatorOf, preparing, floodConf, floodFrom, startDraw}
-use Rattle.pipeline.specs.declared.flood.FloodRun.{FloodRun}
+use Rattle.capture.specs.Capture.{over, slotOf, startOf}
+use Rattle.capture.specs.declared.capture.CeState.{CeState}
+use Rattle.flood.specs.Flood.{isOver, floodSlot}
+use Rattle.flood.specs.declared.flood.FloodRun.{FloodRun}
+use Rattle.pipeline.specs.Round.{initiatorOf, preparing, bytesOf, floodFrom, startDraw}
 use Rattle.pipeline.specs.declared.prepare.Prepared.{Prepared}
+use Rattle.pipeline.specs.declared.pipeline.PipelinePart.{PipelinePart}
 use Rattle.room.specs.declared.room.Room.{Room}
-use Rattle.room.specs.declared.room.Rounds.{Rounds}
-use Rattle.room.specs.Rooms.{ceConf, ceState, during, pipeConf, pipeOf}
+use Rattle.room.specs.Capturing.{ceState, withHeld}
+use Rattle.room.specs.Pipelining.{pipeConf}
+use Rattle.room.specs.Rooms.{withCapture, withPipeline}
 
 -- The states after each step of a loop that takes at most k steps, and none once `stop` holds.
 module _ {S : Type 0} (stop : S → Bool) (step : S → S) where
@@ -24,13 +27,16 @@ module _ {S : Type 0} (stop : S → Bool) (step : S → S) where
   stages k s = stagesFrom k (stop s) s
 
 -- in a capture round: the engine's state after each slot
+abbrev pub during : Room → CeState → Room
+during r c = withCapture r (c .network) (withHeld (r .capture) (r .capture .raised) (c .held))
+
 unfoldable pub captureSlots : List ℕ → ℕ → Room → List Room
 captureSlots ws cursor r =
-    map (during r)
-    (stages over (slotOf ws (r .conf .graph .adj) (ceConf (r .conf))) (r .conf .length) (startOf (ceConf (r .conf)) (r .terms .initiator) cursor (ceState r)))
+    let conf = r .conf .round in
+    map (during r) (stages over (slotOf ws conf) (conf .length) (startOf conf (r .capture .initiator) cursor (ceState (r .network) (r .capture))))
 
 -- in a pipeline round: the flood's state after each slot, with what the initiator knows once it has prepared the round
-abbrev pub prepared : Rounds → ℕ → Prepared → Rounds
+abbrev pub prepared : PipelinePart → ℕ → Prepared → PipelinePart
 prepared x i prep =
     record {
       round = x .round;
@@ -38,31 +44,22 @@ prepared x i prep =
       states = set (x .states) i (prep .state);
       txs = prep .txs;
       piggyback = x .piggyback;
-      book = prep .book;
+      records = prep .records;
       payloads = x .payloads;
       holding = x .holding;
     }
 
 abbrev pub flooding : Room → ℕ → Prepared → FloodRun → Room
-flooding r i prep f =
-    record {
-      conf = r .conf;
-      nodes = f .at;
-      metrics = r .metrics;
-      slot = f .slot;
-      «next_row» = f .next;
-      «bytes_sent» = f .sent;
-      terms = r .terms;
-      rounds = prepared (r .rounds) i prep;
-    }
+flooding r i prep f = withPipeline r (f .network) (prepared (r .pipeline) i prep)
 
 abbrev pub floodSlots : List ℕ → Room → ℕ → Prepared → List Room
 floodSlots ws r i prep =
+    let conf = pipeConf (r .conf) in
     map (flooding r i prep)
-    (stages isOver (floodSlot ws (r .conf .graph .adj) (floodConf (pipeConf (r .conf)) (prep .packet))) (r .conf .length)
-    (floodFrom (pipeConf (r .conf)) (pipeOf r) i (prep .draw)))
+    (stages isOver (floodSlot ws (conf .round) (bytesOf conf (prep .packet))) (conf .round .length) (floodFrom conf (r .network) i (prep .draw)))
 
 unfoldable pub pipelineSlots : List ℕ → ℕ → Room → List Room
 pipelineSlots ws cursor r =
-    let i = initiatorOf (pipeConf (r .conf)) (pipeOf r) in
-    floodSlots ws r i (preparing ws (pipeConf (r .conf)) (pipeOf r) i (startDraw cursor))
+    let conf = pipeConf (r .conf) in
+    let i = initiatorOf conf (r .pipeline) in
+    floodSlots ws r i (preparing ws conf (r .network .slot) (r .pipeline) i (startDraw cursor))

@@ -1,3 +1,4 @@
 // Rooms: opened, called, read. The fourth of the layers.
-pub mod readings;
+pub mod capture_calls;
+pub mod pipeline_calls;
 pub mod room;

@@ -1,29 +1,31 @@
 // The entry for differential runs: a room is opened and called by lent numbers, and its account goes back as numbers.
-//   setup: kind (1 pipeline, every other number capture), transactions, start term, interval, bound, seed, listen timeout, repeats (its low 32
-//     digits), slots of a round, whether these are given
+//   setup: kind (1 pipeline, every other number capture), transactions, start term, interval, bound, seed, listen
+//     timeout, repeats (its low 32 digits), slots of a round, whether these are given
 //   links: a row for each position
-//   calls: four numbers each: which (1 propose, 2 capture round, 3 pipeline round, 4 the packet text of a position, any other: none), position,
-//     cursor, used. What a call has no use for is handed back. Fewer than four numbers at the end are no call
-//   out: from 0 on a room as in the pipeline's console, the nodes and the counts among it, with the last call's rows used and cursor; at 9749 the last
-//     call's refusal and the length of the text that it read, then term, initiator, whether anybody proposed, whether the progress was raised; from 9755
-//     on what positions hold, 38 numbers each; 12187 in all
-// A place past the end of a list reads as 0, and nothing is put there. The loss and the abort probability go over as floats, because a NaN has no
-// number here.
+//   calls: four numbers each: which (1 propose, 2 capture round, 3 pipeline round, 4 the packet text of a position,
+//     any other: none), position, cursor, used. What a call has no use for is handed back. Fewer than four numbers at
+//     the end are no call
+//   out: from 0 on a room as in the pipeline's console, the nodes and the counts among it, with the last call's rows
+//     used and cursor; at 9749 the last call's refusal and the length of the text that it read, then term, initiator,
+//     whether anybody proposed, whether the progress was raised; from 9755 on what positions hold, 38 numbers each;
+//     12187 in all
+// A place past the end of a list reads as 0, and nothing is put there. The loss and the abort probability go over as
+// floats, because a NaN has no number here.
 ghost use mathlib.Core.Path.{_≡_};
-ghost use Prim.Native.Nat.{_≤_};
-ghost use Rattle.room.specs.Rooms.{pipeOf};
-ghost use Rattle.room_c.specs.Console.{kindNumbered, settingsBy, openingBy, quiet, proposalTold, roundTold, textTold, callOf, callAt, play, playedBy, termNumbers, putTold, runFrom, Calling, Run};
+ghost use Prim.Native.Nat.{_<_, _^_};
+ghost use Rattle.room_c.specs.Console.{kindNumbered, settingsBy, askedBy, openingBy, quiet, proposalTold, roundTold, textTold, callOf, callAt, play, playedBy, termNumbers, putTold, runFrom, Calling, Run};
 use engines::settings::Settings;
 use engines_c::numbers;
 use engines_c::payloads;
+use graph::network::NetworkGraph;
 use pipeline_c::console as pipes;
 use pipeline_c::rounds::Played;
-use room::readings;
-use room::room as rooms;
+use readings::readings as reading;
+use room::room::Asked;
 use room::room::Opening;
 use room::room::Room;
 use room::room::RoomKind;
-use room::room::Round;
+use room::room::RoundAnswer;
 
 // What a call hands back: the refusal, the cursor, the rows used, the length of the text that it read, and the room.
 pub struct Told {
@@ -59,16 +61,39 @@ fn settings_by(xs: &[u64], loss_rate: f64, abort_probability: f64) -> Settings
     }
 }
 
+fn asked_by(xs: &[u64], loss_rate: f64, abort_probability: f64, graph: NetworkGraph) -> Asked
+    ensures { λ r. ⌜ r ≡ askedBy (now (xs .entry)) «loss_rate» «abort_probability» graph ⌝ }
+{
+    let kind = kind_numbered(numbers::number(xs, 0));
+    let settings = settings_by(xs, loss_rate, abort_probability);
+    Asked {
+        kind,
+        graph,
+        settings,
+        transactions: numbers::number(xs, 1) as usize,
+        term: numbers::number(xs, 2),
+        interval: numbers::number(xs, 3),
+        bound: numbers::number(xs, 4),
+    }
+}
+
+// The refusal of the rows, or else of the opening. Rows that are refused make a graph of no positions, and so the room
+// has none either.
 fn open_by(xs: &[u64], loss_rate: f64, abort_probability: f64, links: &[u64]) -> Opening
     ensures { λ r. ⌜ r ≡ openingBy (now (xs .entry)) «loss_rate» «abort_probability» (now (links .entry)) ⌝ }
 {
-    let kind = kind_numbered(numbers::number(xs, 0));
-    let s = settings_by(xs, loss_rate, abort_probability);
-    let transactions = numbers::number(xs, 1) as usize;
-    let term = numbers::number(xs, 2);
-    let interval = numbers::number(xs, 3);
-    let bound = numbers::number(xs, 4);
-    Room::open(kind, links, s, transactions, term, interval, bound)
+    let b = NetworkGraph::from_rows(links);
+    let graph = b.graph;
+    let asked = asked_by(xs, loss_rate, abort_probability, graph);
+    let o = Room::open(asked);
+    if b.refusal == 0 {
+        return o;
+    }
+    let room = o.room;
+    Opening {
+        refusal: b.refusal,
+        room,
+    }
 }
 
 // ---- the calls
@@ -99,7 +124,7 @@ fn tell_proposal(r: Room, v: usize, cursor: usize, used: usize) -> Told
     }
 }
 
-fn tell_round(a: Round) -> Told
+fn tell_round(a: RoundAnswer) -> Told
     ensures { λ t. ⌜ t ≡ roundTold a ⌝ }
 {
     let room = a.room;
@@ -116,7 +141,7 @@ fn tell_text(r: Room, v: usize, cursor: usize, used: usize) -> Told
     ensures { λ t. ⌜ t ≡ textTold r v cursor used ⌝ }
 {
     let mut text = [0u8; 1024];
-    let a = readings::packet_text(r, v, &mut text);
+    let a = reading::packet_text(r, v, &mut text);
     Told {
         refusal: a.refusal,
         cursor,
@@ -156,7 +181,7 @@ fn call(
 
 // Call i of the list.
 fn call_at(words: &[u64], rows: &mut [u64], calls: &[u64], i: usize, t: Told) -> Told
-    requires { ⌜ i ≤ 4611686018427387903 ⌝ }
+    requires { ⌜ i < 2 ^ 62 ⌝ }
     ensures { λ u. ⌜ record { rows = now (rows .exit); told = u } ≡ callAt (now (words .entry)) (now (calls .entry)) i (record { rows = now (rows .entry); told = t }) ⌝ }
 {
     let at = i * 4;
@@ -187,13 +212,15 @@ fn played_by(t: Told) -> Played
     ensures { λ p. ⌜ p ≡ playedBy t ⌝ }
 {
     let r = t.room;
-    let pipe = rooms::pipe_of(r);
+    let network = r.network;
+    let part = r.pipeline;
     Played {
         refusal: t.refusal,
         cursor: t.cursor,
         used: t.used,
         count: 0,
-        pipe,
+        network,
+        part,
     }
 }
 
@@ -201,7 +228,7 @@ fn term_numbers(t: Told) -> [u64; 6]
     ensures { λ r. ⌜ r ≡ termNumbers t ⌝ }
 {
     let r = t.room;
-    let x = r.terms;
+    let x = r.capture;
     [
         t.refusal,
         t.len as u64,
@@ -218,7 +245,7 @@ fn put_told(xs: &mut [u64], t: Told)
     let p = played_by(t);
     let values = term_numbers(t);
     let r = t.room;
-    let x = r.terms;
+    let x = r.capture;
     let held = x.held;
     pipes::put_played(xs, p);
     numbers::put_run(xs, 9749, 0, &values);
@@ -227,8 +254,8 @@ fn put_told(xs: &mut [u64], t: Told)
 
 // ---- the entry
 
-// The opening, then the calls in their order. The answer is the opening's refusal, which leaves both lists as they were, or else the last call's, 0 for
-// none and for no calls.
+// The opening, then the calls in their order. The answer is the opening's refusal, which leaves both lists as they
+// were, or else the last call's, 0 for none and for no calls.
 #[no_mangle]
 pub extern "C" fn room_run(
     setup: &[u64],

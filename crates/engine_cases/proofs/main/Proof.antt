@@ -6,7 +6,8 @@ use Rattle.engine_cases.proofs.main.Statement.{statement}
 use Rattle.engine_cases.proofs.main.Tie as tie
 
 abbrev Inv-loop : tie.InvT-loop
-Inv-loop text n room₀ state₀ words₀ links₀ rows₀ l₀ i₀ room state words links rows l i = (i ≤ n) × (length room ≡ 16) × (length state ≡ 2960) × (length words ≡ 4096) × (length links ≡ 64) × (length rows ≡ 600)
+Inv-loop text n room₀ state₀ words₀ links₀ rows₀ l₀ i₀ room state words links rows l i =
+    (i ≤ n) × (length room ≡ 16) × (length state ≡ 2960) × (length words ≡ 4096) × (length links ≡ 64) × (length rows ≡ 600)
 
 abbrev μ-loop : tie.MeasureT-loop
 μ-loop text n room₀ state₀ words₀ links₀ rows₀ l₀ i₀ room state words links rows l i = n - i

@@ -4,10 +4,10 @@ use Rattle.pipeline_cases.proofs.of_positions.Statement.{statement}
 use Rattle.pipeline_cases.proofs.of_positions.Tie as tie
 
 abbrev Inv-loop : tie.InvT-loop
-Inv-loop d p n count e₀ i₀ e i = i ≤ count
+Inv-loop d w p n count e₀ i₀ e i = i ≤ count
 
 abbrev μ-loop : tie.MeasureT-loop
-μ-loop d p n count e₀ i₀ e i = count - i
+μ-loop d w p n count e₀ i₀ e i = count - i
 
 pub of-positions-spec : {M : Type 1} → statement M
 of-positions-spec =

@@ -1,7 +1,4 @@
-use Rattle.frame.proofs.Playing.{kept, no-frame, a-frame}
-use Rattle.loops.specs.Table.{length-filled}
-use lib.ListN.{length}
-use mathlib.Core.Path.{ap, _∙_}
+use Rattle.frame.proofs.Playing.{kept, no-frame, a-frame, words-left}
 use native.Mathlib.Omega.{arith}
 use borrow.Author.Needs.{needs}
 use Rattle.frame.proofs.listing.outcome_of.Statement.{statement}
@@ -12,12 +9,16 @@ outcome-of-spec =
     tie.close
     (tie.spec
     (λ c κs. search needs)
-    (λ c. no-frame (c .before .before .before .before .args .s .now) (c .before .before .read-frame .ensures) (c .if1 .taken))
-    (λ c. record { fits = omega (arith, kept (c .before .before .before .before .before .args .s .now) (c .before .before .before .read-frame .ensures) (c .before .if1 .left) .short) })
-    (λ c. record { fits = omega (arith, kept (c .before .before .before .before .before .args .s .now) (c .before .before .before .read-frame .ensures) (c .before .if1 .left) .short) })
-    (λ c κs. (omega (arith, kept (c .before .before .before .before .before .args .s .now) (c .before .before .before .read-frame .ensures) (c .before .if1 .left) .short), kept (c .before .before .before .before .before .args .s .now) (c .before .before .before .read-frame .ensures) (c .before .if1 .left) .atMost64))
+    (λ c. no-frame (c .before .before .before .before .before .args .s .now) (c .before .before .before .before .before .args .words .now) (c .before .before .read-frame .ensures) (c .if1 .taken))
+    (λ c. record { fits = omega (arith, kept (c .before .before .before .before .before .before .args .s .now) (c .before .before .before .read-frame .ensures) (c .before .if1 .left) .short) })
+    (λ c. record { fits = omega (arith, kept (c .before .before .before .before .before .before .args .s .now) (c .before .before .before .read-frame .ensures) (c .before .if1 .left) .short) })
+    (λ c κs. (kept (c .before .before .before .before .before .before .before .args .s .now) (c .before .before .before .before .read-frame .ensures) (c .before .before .if1 .left) .inside, omega (arith, kept (c .before .before .before .before .before .before .before .args .s .now) (c .before .before .before .before .read-frame .ensures) (c .before .before .if1 .left) .few), kept (c .before .before .before .before .before .before .before .args .s .now) (c .before .before .before .before .read-frame .ensures) (c .before .before .if1 .left) .hex))
     (λ c. search needs)
     (λ c. search needs)
-    (λ c. omega (arith, ap length (c .before .read-words .ensures) ∙ length-filled 0 3745 _ _ (kept (c .before .before .before .before .before .before .before .args .s .now) (c .before .before .before .before .before .read-frame .ensures) (c .before .before .before .if1 .left) .atMost64), kept (c .before .before .before .before .before .before .before .args .s .now) (c .before .before .before .before .before .read-frame .ensures) (c .before .before .before .if1 .left) .atMost64))
-    (λ c κs. (kept (c .before .before .before .before .before .before .before .before .args .s .now) (c .before .before .before .before .before .before .read-frame .ensures) (c .before .before .before .before .if1 .left) .txs, kept (c .before .before .before .before .before .before .before .before .args .s .now) (c .before .before .before .before .before .before .read-frame .ensures) (c .before .before .before .before .if1 .left) .span))
-    (λ c. a-frame (c .before .before .before .before .before .before .before .before .before .args .s .now) (c .before .before .before .before .before .before .before .read-frame .ensures) (c .before .before .before .before .before .if1 .left) (c .before .before .before .read-words .ensures) (c .play-frame .ensures)))
+    (λ c. omega (arith, kept (c .before .before .before .before .before .before .before .before .before .before .before .args .s .now) (c .before .before .before .before .before .before .before .before .read-frame .ensures) (c .before .before .before .before .before .before .if1 .left) .few))
+    (λ c κs. (kept (c .before .before .before .before .before .before .before .before .before .before .before .before .args .s .now) (c .before .before .before .before .before .before .before .before .before .read-frame .ensures) (c .before .before .before .before .before .before .before .if1 .left) .txs, kept (c .before .before .before .before .before .before .before .before .before .before .before .before .args .s .now) (c .before .before .before .before .before .before .before .before .before .read-frame .ensures) (c .before .before .before .before .before .before .before .if1 .left) .span))
+    (λ c. search needs)
+    (λ c. let a = c .before .before .before .before .before .before .before .before .before .before .before .before .before .args in
+    let e = c .before .before .before .before .before .before .before .before .before .before .read-frame .ensures in
+    let w = c .before .before .before .before .before .read-words .ensures in
+    (a-frame (a .s .now) (a .words .now) e (c .before .before .before .before .before .before .before .before .if1 .left) w (c .play-frame .ensures), words-left (a .s .now) (a .words .now) e (c .before .before .before .before .before .before .before .before .if1 .left) w)))

@@ -5,7 +5,7 @@ use Rattle.texts.specs.Put.{Put}
 use lib.ListN.{length}
 use native.Mathlib.Omega.{arith}
 use mathlib.Core.Path.{_≡_, refl, _∙_}
-use Prim.Native.Nat.{_+_, _*_, _≤_, _-_}
+use Prim.Native.Nat.{_≤_, _-_}
 use borrow.Author.Needs.{needs}
 use Rattle.frame.proofs.listing.put_name.Statement.{statement}
 use Rattle.frame.proofs.listing.put_name.Tie as tie

@@ -1,14 +1,17 @@
-use Rattle.frame.specs.Lines.{numberAt}
-use Rattle.loops.specs.Table.{filled, filled-none, filled-turn, filled-all}
+use mathlib.Core.Path.{_≡_, refl}
+use Prim.Native.Nat.{_≤_, _-_}
 use native.Mathlib.Omega.{arith}
-use mathlib.Core.Path.{_≡_}
-use Prim.Native.Nat.{_+_, _*_, _≤_, _-_}
+use lib.ListN.{length, length-set}
+use Rattle.loops.specs.Table.{tabulate}
+use Rattle.texts.specs.Put.{Put}
+use Rattle.frame.proofs.Playing.{wordAt, words-start, words-more, words-stored}
 use borrow.Author.Needs.{needs}
 use Rattle.frame.proofs.listing.read_words.Statement.{statement}
 use Rattle.frame.proofs.listing.read_words.Tie as tie
 
 abbrev Inv-loop : tie.InvT-loop
-Inv-loop s i count words₀ k₀ words k = (k ≤ count) × (words ≡ filled 0 3745 k (λ x. numberAt s (i + 16 * x) 16))
+Inv-loop s i count words₀ k₀ words k =
+    (k ≤ count) × (length words ≡ length words₀) × Put words₀ 0 (tabulate k (wordAt s i)) k words
 
 abbrev μ-loop : tie.MeasureT-loop
 μ-loop s i count words₀ k₀ words k = count - k
@@ -19,7 +22,7 @@ read-words-spec =
     (tie.spec
     Inv-loop
     μ-loop
-    (λ c. (search needs, filled-none _ _ _))
+    (λ c. (omega arith, refl, words-start _ _))
     (λ c. search needs)
     (λ c. search needs)
     (λ c κs. search needs)
@@ -27,5 +30,9 @@ read-words-spec =
     (λ c. search needs)
     (λ c. search needs)
     (λ c. search needs)
-    (λ c. (omega arith, filled-turn _ _ (λ x. numberAt (c .before .before .before .before .args .s .now) (c .before .before .before .before .args .i + 16 * x) 16) (omega arith) (c .before .before .loop .inv .1) (c .number-at .ensures)))
-    (λ c. filled-all _ _ (λ x. numberAt (c .before .before .before .args .s .now) (c .before .before .before .args .i + 16 * x) 16) (c .before .loop .inv .0) (c .loop-test .left) (c .before .loop .inv .1)))
+    (λ c. let l = c .before .before in
+    let a = c .before .before .before .before .before .args in
+    (omega arith, simp length-set (l .loop .inv .1), words-more (wordAt (a .s .now) (a .i)) (omega arith) (l .loop .inv .2) (c .word-at .ensures)))
+    (λ c. c .before .loop .inv .1)
+    (λ c. let a = c .before .before .before .before .args in
+    words-stored (wordAt (a .s .now) (a .i)) (c .before .loop .inv .0) (c .loop-test .left) (c .before .loop .inv .2)))

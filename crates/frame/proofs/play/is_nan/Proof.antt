@@ -1,6 +1,5 @@
 use lib.Ieee.{nanBits}
 use borrow.Author.Tests.{eq-eqb, ne-eqb}
-use borrow.Author.Needs.{needs}
 use Rattle.frame.proofs.play.is_nan.Statement.{statement}
 use Rattle.frame.proofs.play.is_nan.Tie as tie
 

@@ -1,5 +1,4 @@
 use borrow.Author.Tests.{eq-eqb, ne-eqb}
-use borrow.Author.Needs.{needs}
 use Rattle.frame.proofs.play.kind_of.Statement.{statement}
 use Rattle.frame.proofs.play.kind_of.Tie as tie
 

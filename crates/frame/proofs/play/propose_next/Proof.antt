@@ -1,15 +1,19 @@
-use Rattle.frame.specs.Play.{proposing}
 use borrow.Author.Tests.{eq-eqb, ne-eqb}
 use borrow.Author.Needs.{needs}
+use Rattle.frame.specs.Play.{proposing}
 use Rattle.frame.proofs.play.propose_next.Statement.{statement}
 use Rattle.frame.proofs.play.propose_next.Tie as tie
 
+returns : tie.Need-returns
+unfolding proposing
+returns c = rw (ne-eqb _ _ (c .if1 .taken))
+
 returns-2 : tie.Need-returns-2
 unfolding proposing
-returns-2 c = rw (eq-eqb _ _ (c .before .before .before .if1 .left), c .before .propose .ensures)
+returns-2 c = rw (eq-eqb (c .before .before .before .before .before .args .s .refusal) 0 (c .before .before .before .if1 .left), c .before .propose .ensures)
 
 pub propose-next-spec : {M : Type 1} → statement M
 propose-next-spec = tie.close (tie.spec
-    (λ c. rw (ne-eqb _ _ (c .if1 .taken)))
+    returns
     (λ c κs. search needs)
     returns-2)

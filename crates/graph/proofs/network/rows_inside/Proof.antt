@@ -12,7 +12,7 @@ use Rattle.graph.proofs.network.rows_inside.Statement.{statement}
 use Rattle.graph.proofs.network.rows_inside.Tie as tie
 
 abbrev Inv-loop : tie.InvT-loop
-Inv-loop rows n i₀ i = (n ≡ length rows) × (i ≤ n) × (allOf i (λ j. inside n (getD rows j 0)) ≡ true)
+Inv-loop rows n i₀ i = (i ≤ n) × (allOf i (λ j. inside n (getD rows j 0)) ≡ true)
 
 abbrev μ-loop : tie.MeasureT-loop
 μ-loop rows n i₀ i = n - i
@@ -23,12 +23,12 @@ rows-inside-spec =
     (tie.spec
     Inv-loop
     μ-loop
-    (λ c. (refl, omega arith, all-none _))
+    (λ c. (omega arith, all-none _))
     (λ c. search needs)
     (λ c. search needs)
     (λ c κs. search needs)
-    (λ c. sym (all-left (λ j. inside (length (c .before .before .before .before .before .before .args .rows .now)) (getD (c .before .before .before .before .before .before .args .rows .now) j 0)) _ _ (c .before .before .before .loop-test .taken) (sym (c .before .row-inside .ensures) ∙ not-true _ (c .if1 .taken))))
+    (λ c. sym (all-left (λ j. inside (c .before .before .before .before .before .before .args .n) (getD (c .before .before .before .before .before .before .args .rows .now) j 0)) _ _ (c .before .before .before .loop-test .taken) (sym (c .before .row-inside .ensures) ∙ not-true _ (c .if1 .taken))))
     (λ c. search needs)
     (λ c. search needs)
-    (λ c. (refl, omega arith, all-more (λ j. inside (length (c .before .before .before .before .before .before .args .rows .now)) (getD (c .before .before .before .before .before .before .args .rows .now) j 0)) _ (c .before .before .before .before .loop .inv .2) (sym (c .before .row-inside .ensures) ∙ not-false _ (c .if1 .left))))
-    (λ c. sym (all-done (λ j. inside (length (c .before .before .before .args .rows .now)) (getD (c .before .before .before .args .rows .now) j 0)) _ _ (c .before .loop .inv .1) (c .loop-test .left) (c .before .loop .inv .2))))
+    (λ c. (omega arith, all-more (λ j. inside (c .before .before .before .before .before .before .args .n) (getD (c .before .before .before .before .before .before .args .rows .now) j 0)) _ (c .before .before .before .before .loop .inv .1) (sym (c .before .row-inside .ensures) ∙ not-false _ (c .if1 .left))))
+    (λ c. sym (all-done (λ j. inside (c .before .before .before .args .n) (getD (c .before .before .before .args .rows .now) j 0)) _ _ (c .before .loop .inv .0) (c .loop-test .left) (c .before .loop .inv .1))))

@@ -1,4 +1,4 @@
-use borrow.Author.Tests.{lt-ltb, le-ltb, le-leb, lt-leb, eq-eqb, ne-eqb, not-true, not-false}
+use borrow.Author.Tests.{lt-ltb, le-ltb, not-true, not-false}
 use Rattle.pipeline.specs.Pipeline.{dataOf}
 use borrow.Author.Needs.{needs}
 use Rattle.pipeline.proofs.packet.data.Statement.{statement}

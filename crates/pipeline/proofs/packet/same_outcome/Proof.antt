@@ -1,4 +1,4 @@
-use borrow.Author.Tests.{lt-ltb, le-ltb, le-leb, lt-leb, eq-eqb, ne-eqb, not-true, not-false}
+use borrow.Author.Tests.{eq-eqb, ne-eqb}
 use borrow.Author.Needs.{needs}
 use Rattle.pipeline.proofs.packet.same_outcome.Statement.{statement}
 use Rattle.pipeline.proofs.packet.same_outcome.Tie as tie

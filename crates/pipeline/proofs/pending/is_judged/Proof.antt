@@ -1,9 +1,8 @@
 use Prim.Native.Nat.{_+_}
 use native.Mathlib.Omega.{arith}
-use mathlib.Core.Path.{_≡_, refl, sym, ap, _∙_}
-use borrow.Author.Tests.{lt-ltb, le-ltb, le-leb, lt-leb, eq-eqb, ne-eqb, not-true, not-false}
+use mathlib.Core.Path.{sym}
+use borrow.Author.Tests.{le-leb, lt-leb}
 use Rattle.pipeline.specs.Pending.{isJudged}
-use borrow.Author.Needs.{needs}
 use Rattle.pipeline.proofs.pending.is_judged.Statement.{statement}
 use Rattle.pipeline.proofs.pending.is_judged.Tie as tie
 

@@ -1,5 +1,5 @@
 use native.Mathlib.Omega.{arith}
-use Rattle.pipeline.proofs.Joining.{join-is, common-is, hearers-is, without-is}
+use Rattle.pipeline.proofs.Joining.{join-is}
 use borrow.Author.Needs.{needs}
 use Rattle.pipeline.proofs.pending.join.Statement.{statement}
 use Rattle.pipeline.proofs.pending.join.Tie as tie

@@ -1,4 +1,4 @@
-use borrow.Author.Tests.{lt-ltb, le-ltb, le-leb, lt-leb, eq-eqb, ne-eqb, not-true, not-false}
+use borrow.Author.Tests.{lt-ltb, le-ltb}
 use Rattle.pipeline.specs.Pending.{openTx}
 use borrow.Author.Needs.{needs}
 use Rattle.pipeline.proofs.pending.open_tx.Statement.{statement}

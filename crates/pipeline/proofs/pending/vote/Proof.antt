@@ -1,4 +1,4 @@
-use mathlib.Core.Path.{_≡_, refl, sym, ap, _∙_}
+use mathlib.Core.Path.{sym, _∙_}
 use Rattle.pipeline.specs.Pending.{voteOf}
 use borrow.Author.Needs.{needs}
 use Rattle.pipeline.proofs.pending.vote.Statement.{statement}

@@ -1,5 +1,5 @@
 use native.Mathlib.Omega.{arith}
-use Rattle.engines.proofs.Marking.{without, over-less, over-turn, over-none, with-is}
+use Rattle.engines.proofs.Marking.{with-is}
 use borrow.Author.Needs.{needs}
 use Rattle.pipeline.proofs.pending.with.Statement.{statement}
 use Rattle.pipeline.proofs.pending.with.Tie as tie

@@ -1,5 +1,5 @@
 use native.Mathlib.Omega.{arith}
-use Rattle.pipeline.proofs.Joining.{join-is, common-is, hearers-is, without-is}
+use Rattle.pipeline.proofs.Joining.{without-is}
 use borrow.Author.Needs.{needs}
 use Rattle.pipeline.proofs.pending.without.Statement.{statement}
 use Rattle.pipeline.proofs.pending.without.Tie as tie

@@ -12,6 +12,4 @@ count-round-spec =
     (λ c κs. search needs)
     (λ c κs. search needs)
     (λ c κs. search needs)
-    (λ c κs. search needs)
-    (λ c κs. search needs)
-    (λ c. rw (c .wrapping-add-u647 .ensures, c .before .wrapping-add-u646 .ensures, c .before .before .wrapping-add-u645 .ensures, c .before .before .before .wrapping-add-u644 .ensures, c .before .before .before .before .wrapping-add-u643 .ensures, c .before .before .before .before .before .wrapping-add-u642 .ensures, c .before .before .before .before .before .before .wrapping-add-u64 .ensures)))
+    (λ c. rw (c .wrapping-add-u645 .ensures, c .before .wrapping-add-u644 .ensures, c .before .before .wrapping-add-u643 .ensures, c .before .before .before .wrapping-add-u642 .ensures, c .before .before .before .before .wrapping-add-u64 .ensures)))

@@ -1,10 +1,10 @@
 use native.Mathlib.Omega.{arith}
-use Prim.Native.Nat.{_≤_, _<_, _-_, _+_, _^_}
-use mathlib.Core.Path.{_≡_, refl, sym, ap, _∙_}
+use Prim.Native.Nat.{_<_, _-_, _^_}
+use mathlib.Core.Path.{_≡_, refl}
 use Rattle.marks.specs.Marks.{countOf}
 use Rattle.marks.specs.Sets.{lowest-lt}
-use Rattle.engines.specs.Marked.{overMarks, withMark}
-use Rattle.engines.proofs.Marking.{without, over-less, over-turn, over-none, with-is}
+use Rattle.engines.specs.Marked.{overMarks}
+use Rattle.engines.proofs.Marking.{without, over-less, over-turn, over-none}
 use Rattle.pipeline.specs.Round.{deliverAt, deliverAll}
 use borrow.Author.Needs.{needs}
 use Rattle.pipeline.proofs.pipeline.deliver_all.Statement.{statement}

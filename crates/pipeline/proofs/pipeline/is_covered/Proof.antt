@@ -1,4 +1,4 @@
-use borrow.Author.Tests.{lt-ltb, le-ltb, le-leb, lt-leb, eq-eqb, ne-eqb, not-true, not-false}
+use borrow.Author.Tests.{not-true, not-false}
 use borrow.Author.Needs.{needs}
 use Rattle.pipeline.proofs.pipeline.is_covered.Statement.{statement}
 use Rattle.pipeline.proofs.pipeline.is_covered.Tie as tie

@@ -1,11 +1,26 @@
-use borrow.Author.Tests.{lt-ltb, le-ltb, le-leb, lt-leb, eq-eqb, ne-eqb, not-true, not-false}
+use Prim.Native.Nat.{_*_}
+use native.Mathlib.Omega.{arith}
+use Rattle.engines.proofs.Rounds.{no-rows}
+use Rattle.pipeline.proofs.Rounding.{part-whole}
+use Rattle.pipeline.specs.Round.{rowsOfRound}
 use borrow.Author.Needs.{needs}
 use Rattle.pipeline.proofs.pipeline.write_due.Statement.{statement}
 use Rattle.pipeline.proofs.pipeline.write_due.Tie as tie
 
 pub write-due-spec : {M : Type 1} → statement M
-write-due-spec = tie.close (tie.spec
-    (λ c. rw (eq-eqb _ _ (c .if1 .taken)))
+write-due-spec =
+    tie.close
+    (tie.spec
+    (λ c. let s = c .before .before .before .args in
+    no-rows (s .rows .now) (rowsOfRound (s .words .now) (s .conf) (s .w) (s .p) (s .d)) (s .used * 5) (omega (arith, c .if1 .taken, c .before .before .before .pre .1 .0)))
+    (λ c. search needs)
+    (λ c. search needs)
+    (λ c. search needs)
+    (λ c. search needs)
+    (λ c. search needs)
+    (λ c. search needs)
+    (λ c. search needs)
     (λ c κs. search needs)
     (λ c. search needs)
-    (λ c. rw (ne-eqb _ _ (c .before .before .before .before .if1 .left)) (c .before .before .write-round .ensures)))
+    (λ c. let s = c .before .before .before .before .before .before .before .args in
+    rw (c .before .before .write-round .ensures) (part-whole (s .rows .now) (rowsOfRound (s .words .now) (s .conf) (s .w) (s .p) (s .d)) (s .used) (s .due) (c .before .before .before .before .before .before .before .pre .1 .0) (c .before .before .before .before .before .before .before .pre .1 .1))))

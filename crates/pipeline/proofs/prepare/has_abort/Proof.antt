@@ -1,5 +1,5 @@
-use mathlib.Core.Path.{_≡_, refl, sym, ap, _∙_}
-use borrow.Author.Tests.{lt-ltb, le-ltb, le-leb, lt-leb, eq-eqb, ne-eqb, not-true, not-false}
+use mathlib.Core.Path.{sym, _∙_}
+use borrow.Author.Tests.{not-true, not-false}
 use Rattle.pipeline.specs.Pipeline.{abortOf}
 use borrow.Author.Needs.{needs}
 use Rattle.pipeline.proofs.prepare.has_abort.Statement.{statement}

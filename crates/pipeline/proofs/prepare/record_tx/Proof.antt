@@ -1,5 +1,4 @@
-use native.Mathlib.Omega.{arith}
-use mathlib.Core.Path.{_≡_, refl, sym, ap, _∙_}
+use mathlib.Core.Path.{sym, _∙_}
 use Rattle.pipeline.specs.Pipeline.{recordTx}
 use Rattle.pipeline.proofs.Recorded.{recorded-out}
 use borrow.Author.Needs.{needs}

@@ -1,5 +1,4 @@
-use borrow.Author.Tests.{lt-ltb, le-ltb, le-leb, lt-leb, eq-eqb, ne-eqb, not-true, not-false}
-use borrow.Author.Needs.{needs}
+use borrow.Author.Tests.{le-leb, lt-leb}
 use Rattle.pipeline.proofs.process.all_done.Statement.{statement}
 use Rattle.pipeline.proofs.process.all_done.Tie as tie
 

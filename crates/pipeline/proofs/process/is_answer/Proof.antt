@@ -1,5 +1,5 @@
 use native.Mathlib.Omega.{arith}
-use borrow.Author.Tests.{lt-ltb, le-ltb, le-leb, lt-leb, eq-eqb, ne-eqb, not-true, not-false}
+use borrow.Author.Tests.{lt-ltb}
 use Rattle.pipeline.specs.Pipeline.{isAnswer}
 use borrow.Author.Needs.{needs}
 use Rattle.pipeline.proofs.process.is_answer.Statement.{statement}

@@ -1,17 +1,17 @@
 use native.Mathlib.Omega.{arith}
-use Prim.Native.Nat.{_≤_, _<_, _-_, _+_, _^_}
-use mathlib.Core.Path.{_≡_, refl, sym, ap, _∙_}
+use Prim.Native.Nat.{_<_, _-_, _^_}
+use mathlib.Core.Path.{_≡_, refl}
 use Rattle.marks.specs.Marks.{countOf}
 use Rattle.marks.specs.Sets.{lowest-lt}
-use Rattle.engines.specs.Marked.{overMarks, withMark}
-use Rattle.engines.proofs.Marking.{without, over-less, over-turn, over-none, with-is}
+use Rattle.engines.specs.Marked.{overMarks}
+use Rattle.engines.proofs.Marking.{without, over-less, over-turn, over-none}
 use Rattle.pipeline.specs.Pipeline.{processAt, processAll}
 use borrow.Author.Needs.{needs}
 use Rattle.pipeline.proofs.process.process_all.Statement.{statement}
 use Rattle.pipeline.proofs.process.process_all.Tie as tie
 
 abbrev Inv-loop : tie.InvT-loop
-Inv-loop words p facts rounds q parts ss₀ m₀ left₀ ss m left = (left < 2 ^ 64) × (overMarks left (processAt words p facts rounds q) (record { states = ss; ledger = m }) ≡ overMarks parts (processAt words p facts rounds q) (record { states = ss₀; ledger = m₀ }))
+Inv-loop words p facts rounds q parts ss₀ m₀ left₀ ss m left = (left < 2 ^ 64) × (overMarks left (processAt words p facts rounds q) (record { states = ss; carried = m }) ≡ overMarks parts (processAt words p facts rounds q) (record { states = ss₀; carried = m₀ }))
 
 abbrev μ-loop : tie.MeasureT-loop
 μ-loop words p facts rounds q parts ss₀ m₀ left₀ ss m left = countOf left 64

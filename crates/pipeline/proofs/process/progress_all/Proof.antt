@@ -1,5 +1,5 @@
-use Prim.Native.Nat.{_≤_, _<_, _-_, _+_, _^_}
-use mathlib.Core.Path.{_≡_, refl, sym, ap, _∙_}
+use Prim.Native.Nat.{_≤_, _-_}
+use mathlib.Core.Path.{_≡_}
 use Rattle.loops.specs.Upto.{upto, upto-none, upto-turn, upto-all}
 use Rattle.pipeline.specs.Pipeline.{progressAt, progressAll}
 use borrow.Author.Needs.{needs}

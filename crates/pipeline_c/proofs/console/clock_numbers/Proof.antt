@@ -1,4 +1,4 @@
-use mathlib.Core.Path.{_≡_, refl, ap, _∙_}
+use mathlib.Core.Path.{refl}
 use Rattle.pipeline_c.specs.Console.{clockNumbers}
 use borrow.Author.Needs.{needs}
 use Rattle.pipeline_c.proofs.console.clock_numbers.Statement.{statement}

@@ -1,4 +1,3 @@
-use Rattle.pipeline_c.specs.Console.{entryNumber}
 use borrow.Author.Needs.{needs}
 use Rattle.pipeline_c.proofs.console.entry_number.Statement.{statement}
 use Rattle.pipeline_c.proofs.console.entry_number.Tie as tie

@@ -1,8 +1,8 @@
 use Rattle.engines_c.proofs.Storing.{filled-whole}
 use Rattle.loops.specs.Table.{filled, filled-none, filled-turn, filled-all}
-use Prim.Native.Nat.{ℕ, _+_, _*_, _≤_, _-_}
+use Prim.Native.Nat.{_+_, _*_, _≤_, _-_}
 use native.Mathlib.Omega.{arith}
-use mathlib.Core.Path.{_≡_, refl, ap, _∙_}
+use mathlib.Core.Path.{_≡_, _∙_}
 use Rattle.pipeline_c.specs.Console.{packetAt, packetsAt}
 use borrow.Author.Needs.{needs}
 use Rattle.pipeline_c.proofs.console.packets_of.Statement.{statement}

@@ -1,4 +1,4 @@
-use borrow.Author.Tests.{eq-eqb, ne-eqb, lt-ltb, le-ltb}
+use borrow.Author.Tests.{eq-eqb, ne-eqb}
 use borrow.Author.Needs.{needs}
 use Rattle.pipeline_c.proofs.console.piggyback_numbered.Statement.{statement}
 use Rattle.pipeline_c.proofs.console.piggyback_numbered.Tie as tie

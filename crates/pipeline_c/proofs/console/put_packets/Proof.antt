@@ -1,10 +1,10 @@
 use Rattle.pipeline_c.proofs.Numbering.{packet-to-length}
-use lib.ListN.{length, getD}
+use lib.ListN.{length}
 use Rattle.loops.specs.Upto.{upto, upto-none, upto-turn, upto-all, upto-keeps}
-use Prim.Native.Nat.{ℕ, _+_, _*_, _≤_, _-_}
+use Prim.Native.Nat.{_≤_, _-_}
 use native.Mathlib.Omega.{arith}
-use mathlib.Core.Path.{_≡_, refl, ap, _∙_}
-use Rattle.pipeline_c.specs.Console.{packetTo, packetNumbers, putPackets}
+use mathlib.Core.Path.{_≡_, ap, _∙_}
+use Rattle.pipeline_c.specs.Console.{packetTo, putPackets}
 use borrow.Author.Needs.{needs}
 use Rattle.pipeline_c.proofs.console.put_packets.Statement.{statement}
 use Rattle.pipeline_c.proofs.console.put_packets.Tie as tie

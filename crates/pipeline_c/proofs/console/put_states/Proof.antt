@@ -1,9 +1,9 @@
 use Rattle.pipeline_c.proofs.Numbering.{state-to-length}
-use lib.ListN.{length, getD}
+use lib.ListN.{length}
 use Rattle.loops.specs.Upto.{upto, upto-none, upto-turn, upto-all, upto-keeps}
-use Prim.Native.Nat.{ℕ, _+_, _*_, _≤_, _-_}
+use Prim.Native.Nat.{_≤_, _-_}
 use native.Mathlib.Omega.{arith}
-use mathlib.Core.Path.{_≡_, refl, ap, _∙_}
+use mathlib.Core.Path.{_≡_, ap, _∙_}
 use Rattle.pipeline_c.specs.Console.{stateTo, putStates}
 use borrow.Author.Needs.{needs}
 use Rattle.pipeline_c.proofs.console.put_states.Statement.{statement}

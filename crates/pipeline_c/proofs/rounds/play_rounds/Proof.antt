@@ -2,7 +2,7 @@ use mathlib.Core.Path.{_≡_, refl}
 use lib.ListN.{length}
 use borrow.Author.Needs.{needs}
 use Rattle.loops.specs.Runs.{runs, runs-none, runs-stop, runs-turn}
-use Rattle.pipeline_c.specs.Play.{isRefused, playRound, playRounds, Playing}
+use Rattle.pipeline_c.specs.Play.{isRefused, playRound, playRounds}
 use Rattle.pipeline_c.proofs.Playing.{refused-yes, refused-no}
 use Rattle.pipeline_c.proofs.rounds.play_rounds.Statement.{statement}
 use Rattle.pipeline_c.proofs.rounds.play_rounds.Tie as tie

@@ -1,6 +1,5 @@
-use borrow.Author.Tests.{lt-ltb}
 use native.Mathlib.Omega.{arith}
-use borrow.Author.Needs.{needs}
+use borrow.Author.Tests.{lt-ltb}
 use Rattle.room.proofs.room.is_size.Statement.{statement}
 use Rattle.room.proofs.room.is_size.Tie as tie
 

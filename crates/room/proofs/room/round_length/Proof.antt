@@ -1,5 +1,5 @@
-use Rattle.room.specs.Rooms.{roundLength}
 use borrow.Author.Needs.{needs}
+use Rattle.room.specs.Rooms.{roundLength}
 use Rattle.room.proofs.room.round_length.Statement.{statement}
 use Rattle.room.proofs.room.round_length.Tie as tie
 
@@ -12,9 +12,7 @@ unfolding roundLength
 returns-2 c = rw (c .enum-told2 .given .1)
 
 pub round-length-spec : {M : Type 1} → statement M
-round-length-spec =
-    tie.close
-    (tie.spec
+round-length-spec = tie.close (tie.spec
     (λ c. search needs)
     (λ c κs. search needs)
     (λ c κs. search needs)

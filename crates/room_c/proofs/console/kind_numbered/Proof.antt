@@ -1,6 +1,5 @@
 use borrow.Author.Tests.{eq-eqb, ne-eqb}
 use Rattle.room_c.specs.Console.{kindNumbered}
-use borrow.Author.Needs.{needs}
 use Rattle.room_c.proofs.console.kind_numbered.Statement.{statement}
 use Rattle.room_c.proofs.console.kind_numbered.Tie as tie
 

@@ -1,4 +1,3 @@
-use native.Mathlib.Nat.{add-zero}
 use Rattle.room_c.specs.Console.{putTold}
 use borrow.Author.Needs.{needs}
 use Rattle.room_c.proofs.console.put_told.Statement.{statement}
@@ -6,7 +5,16 @@ use Rattle.room_c.proofs.console.put_told.Tie as tie
 
 returns : tie.Need-returns
 unfolding putTold
-returns c = rw (c .before .before .put-held .ensures, c .before .before .before .before .before .before .put-run .ensures, c .before .before .before .before .before .before .before .before .before .before .before .put-played .ensures, c .before .before .before .before .before .before .before .before .before .before .before .before .before .before .before .before .term-numbers .ensures, c .before .before .before .before .before .before .before .before .before .before .before .before .before .before .before .before .before .played-by .ensures)
+returns c =
+    let played = c .before .before .before .before .before .before .before .before .before .before .before in
+    let numbers = played .before .before .before .before .before in
+    rw (
+      c .before .before .put-held .ensures,
+      c .before .before .before .before .before .before .put-run .ensures,
+      played .put-played .ensures,
+      numbers .term-numbers .ensures,
+      numbers .before .played-by .ensures,
+    )
 
 pub put-told-spec : {M : Type 1} → statement M
 put-told-spec =

@@ -1,6 +1,5 @@
 use mathlib.Core.Path.{refl}
 use Rattle.room_c.specs.Console.{roundTold}
-use borrow.Author.Needs.{needs}
 use Rattle.room_c.proofs.console.tell_round.Statement.{statement}
 use Rattle.room_c.proofs.console.tell_round.Tie as tie
 

@@ -1,0 +1,8 @@
+pub mod Hearing
+pub mod Shortage
+pub mod Neighbours
+pub mod Telling
+pub mod Settling
+pub mod Idling
+pub mod PlanCursor
+pub mod Targets

@@ -1,0 +1,25 @@
+use mathlib.Core.Path.{sym, _∙_}
+use borrow.Author.Tests.{not-true, not-false}
+use Rattle.capture.specs.Plan.{tossed1}
+use borrow.Author.Needs.{needs}
+use Rattle.capture.proofs.plan.toss.Statement.{statement}
+use Rattle.capture.proofs.plan.toss.Tie as tie
+
+returns : tie.Need-returns
+unfolding tossed1
+returns c = rw (sym (c .before .timed-out .ensures) ∙ not-true _ (c .if1 .taken))
+
+returns-2 : tie.Need-returns-2
+unfolding tossed1
+returns-2 c = rw (sym (c .before .before .before .before .before .before .timed-out .ensures) ∙ not-false _ (c .before .before .before .before .before .if1 .left), c .before .mark-if .ensures, c .before .before .coin .ensures, c .before .before .before .next .ensures)
+
+pub toss-spec : {M : Type 1} → statement M
+toss-spec =
+    tie.close
+    (tie.spec
+    (λ c κs. search needs)
+    returns
+    (λ c κs. search needs)
+    (λ c κs. search needs)
+    (λ c κs. search needs)
+    returns-2)

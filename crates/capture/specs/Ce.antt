@@ -1,0 +1,70 @@
+-- Document 01, "Capture round" and "Slots, counts, rows": what a slot's plan does to what positions hold, and the bytes that are sent.
+-- Assumes nothing.
+use mathlib.Core.Bool.{Bool, true, false}
+use mathlib.Core.List.{List}
+use Prim.Native.Nat.{ℕ, _+_, _%_, _^_}
+use lib.Dec.{ltb}
+use lib.ListN.{set, getD}
+use Rattle.loops.specs.Pick.{either}
+use Rattle.loops.specs.Upto.{upto}
+use Rattle.packets.specs.Packets.{ceText, ceWithin}
+use Rattle.packets.specs.Writing.{textLen}
+use Rattle.merges.specs.Votes.{noOf}
+use Rattle.merges.specs.Merging.{mergeOf, redundant, noPayload, goalOf, canSleepOf}
+use Rattle.packets.specs.declared.CeTwoPcPacket.{CeTwoPcPacket}
+use Rattle.merges.specs.declared.votes.Voting.{Voting}
+use Rattle.merges.specs.declared.merging.Held.{Held}
+use Rattle.merges.specs.declared.merging.Held.the-variants.{Empty, Unreadable, Packet}
+use Rattle.merges.specs.declared.merging.Payload.{Payload}
+use Rattle.merges.specs.declared.merging.Merged.{Merged}
+use Rattle.merges.specs.declared.merging.MergeResult.{MergeResult}
+use Rattle.merges.specs.declared.merging.MergeResult.the-variants.{Redundant, NewInfo}
+use Rattle.engines.specs.Clamp.{atMost64}
+use Rattle.engines.specs.Marked.{withMark, overMarks}
+use Rattle.capture.specs.declared.ce.SlotMerges.{SlotMerges}
+
+-- The length of a payload: that of its text, and nothing where there is no packet.
+abbrev pub lenBy : CeTwoPcPacket → Held → ℕ
+lenBy p Empty = 0
+lenBy p Unreadable = 0
+lenBy p Packet = textLen (ceWithin p) (ceText p)
+
+unfoldable pub payloadLen : Payload → ℕ
+payloadLen l = lenBy (l .packet) (l .held)
+
+-- Every flooding position that gets to act sends the payload that it held at the slot's start.
+unfoldable pub sentAt : List Payload → ℕ → ℕ → ℕ
+sentAt held i sum = (sum + payloadLen (getD held i noPayload)) % 2 ^ 64
+
+unfoldable pub sentOf : ℕ → List Payload → ℕ
+sentOf flooding held = overMarks flooding (sentAt held) 0
+
+abbrev pub isNews : MergeResult → Bool
+isNews Redundant = false
+isNews NewInfo = true
+
+-- Position i merges what the position that it hears held at the slot's start; who hears nobody (64) keeps what it holds.
+unfoldable pub hearingOf : Voting → List ℕ → List Payload → ℕ → Merged
+hearingOf s hears held i =
+    either (ltb (getD hears i 0) 64)
+    (mergeOf (noOf s) (s .n) i (getD held i noPayload) (getD held (getD hears i 0) noPayload))
+    (redundant (getD held i noPayload))
+
+abbrev pub notedIf : Bool → ℕ → ℕ → ℕ
+notedIf t i m = either t (withMark m i) m
+
+abbrev pub toldBy : ℕ → ℕ → Merged → SlotMerges → SlotMerges
+toldBy n i m t =
+    record {
+      held = set (t .held) i (m .payload);
+      «new_info» = notedIf (isNews (m .result)) i (t .«new_info»);
+      «goal_reached» = notedIf (goalOf (m .payload)) i (t .«goal_reached»);
+      «can_sleep» = notedIf (canSleepOf n (m .payload)) i (t .«can_sleep»);
+    }
+
+unfoldable pub toldAt : Voting → List ℕ → List Payload → ℕ → SlotMerges → SlotMerges
+toldAt s hears held i t = toldBy (s .n) i (hearingOf s hears held i) t
+
+unfoldable pub toldAll : Voting → List ℕ → List Payload → SlotMerges
+toldAll s hears held =
+    upto (atMost64 (s .n)) (toldAt s hears held) (record { held = held; «new_info» = 0; «goal_reached» = 0; «can_sleep» = 0 })

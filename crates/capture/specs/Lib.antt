@@ -1,0 +1,6 @@
+pub mod Plan
+pub mod Turns
+pub mod Ce
+pub mod Capture
+pub mod PlanCases
+pub mod Idle

@@ -1,0 +1,5 @@
+pub mod Flooding
+pub mod Sums
+pub mod Quieting
+pub mod FloodShortage
+pub mod Hearers

@@ -1,0 +1,3 @@
+// The identical flood, ported from phy/ci.rs.
+pub mod flood;
+mod quiet;

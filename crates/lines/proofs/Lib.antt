@@ -1,0 +1,7 @@
+pub mod Answers
+pub mod Ends
+pub mod Feeds
+pub mod Moves
+pub mod Forks
+pub mod Cutting
+pub mod Standing
