@@ -111,7 +111,7 @@ module _ (ws : List ℕ) (numbers used cursor : ℕ) (r : Room) where
   abbrev pub start : CeState
   start = startOf (r .conf .round) (r .capture .initiator) cursor (ceState (r .network) (r .capture))
 
-  pub round-is : (c : CeState) (rows : List ℕ) → captureRefusal (r .conf) (r .capture) (r .network .slot) ≡ 0
+  pub round-is : (c : CeState) (rows : List ℕ) → captureRefusal (r .conf) (r .capture .proposed) (r .network .slot) ≡ 0
       → afterRound ws (r .conf .round) start ≡ c
       → rowsOf ws (r .conf .round) (r .conf .round .length) start ≡ rows
       → c .draw .short ≡ false → used * 5 + length rows ≤ numbers
@@ -119,11 +119,11 @@ module _ (ws : List ℕ) (numbers used cursor : ℕ) (r : Room) where
       ≡ record { refusal = 0; cursor = c .draw .at; used = used + length rows / 5; room = withCapture r (networkAfter (r .conf) (r .capture) c) (partAfter (r .capture) c) }
   unfolding captureOf capturePart capturedBy answerOf refusalOf startOf lateOf
   round-is c rows early run told words room =
-      let long : longRefusal (r .conf .round) (r .network .slot) ≡ 0 = round-fine (r .conf) (r .capture) (r .network .slot) early in
+      let long : longRefusal (r .conf .round) (r .network .slot) ≡ 0 = round-fine (r .conf) (r .capture .proposed) (r .network .slot) early in
       rw (early, long, run, told, words, fitting numbers used (length rows) room)
 
   pub early-none : r .conf .kind ≡ kinds.Capture → (ltb 0 (sizeOf r) && leb (sizeOf r) 64) ≡ true → r .capture .proposed ≡ true
-      → r .network .slot + r .conf .round .length ≤ lastSlot → captureRefusal (r .conf) (r .capture) (r .network .slot) ≡ 0
+      → r .network .slot + r .conf .round .length ≤ lastSlot → captureRefusal (r .conf) (r .capture .proposed) (r .network .slot) ≡ 0
   unfolding captureRefusal longRefusal
   early-none k s p h = rw (k, s, p, le-ltb lastSlot (r .network .slot + r .conf .round .length) h)
 

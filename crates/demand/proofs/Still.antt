@@ -135,7 +135,7 @@ pub pipeline-none : (ws : List ℕ) (numbers used cursor : ℕ) (r : Room) → r
 unfolding pipelineOf pipelinePart
 pipeline-none ws numbers used cursor r z =
     let a = answer-idle ws (pipeConf (r .conf)) (r .network) (r .pipeline) z numbers used cursor in
-    either-cases (λ (q : PipelineAnswer). Unmoved r (withPipeline r (q .network) (q .part))) (eqb (pipelineRefusal (r .conf) (r .pipeline) (r .network .slot)) 0)
+    either-cases (λ (q : PipelineAnswer). Unmoved r (withPipeline r (q .network) (q .part))) (eqb (pipelineRefusal (r .conf) (r .pipeline .stop) (r .network .slot)) 0)
     (λ e. record { slot = a .slot; bytes = a .sent; counts = a .counts })
     (λ e. record { slot = refl; bytes = refl; counts = λ v. alike (getD (r .network .nodes) v noNode) })
 

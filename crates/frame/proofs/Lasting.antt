@@ -5,14 +5,16 @@ use mathlib.Core.Path.{_≡_, refl, subst}
 use Prim.Native.Nat.{ℕ, zero, suc, _+_, _≤_}
 use native.Mathlib.Omega.{arith}
 use lib.Dec.{eqb}
+use borrow.Author.Tests.{eq-eqb}
 use Rattle.loops.specs.Runs.{go, runs}
 use Rattle.limits.specs.Limits.{rowCells}
 use Rattle.pipeline.specs.Round.{newPart}
 use Rattle.pipeline.specs.declared.pipeline.PipelineAnswer.{PipelineAnswer}
 use Rattle.pipeline.proofs.Ending.{Spent, accepted}
 use Rattle.room.specs.declared.room.RoomConf.{RoomConf}
-use Rattle.room.proofs.Spending.{part-spent, spent-going}
-use Rattle.frame.specs.Play.{pipelineTurn, isDone, newRan, playPipeline}
+use Rattle.room.specs.Rooms.{openRefusal, confOf}
+use Rattle.room.proofs.Spending.{part-spent, spent-going, few-transactions}
+use Rattle.frame.specs.Play.{askedOf, pipelineTurn, isDone, newRan, playPipeline}
 use Rattle.frame.specs.Stopping.{RunsUntilStopped}
 
 -- ---- a loop has stopped at its end if what its steps keep says so once none is left
@@ -73,7 +75,9 @@ module _ (conf : RoomConf) (ws : List ℕ) (bounded : conf .transactions ≤ 64)
       by false e = absurd (let g = q e in omega (arith, g .all, spent-going t (g .count) (s .part .round) (subst (λ (b : Bool). Spent t (g .count) b (s .part .round)) (not-done s e .1) (g .spent))))
 
 pub runs-until-stopped : RunsUntilStopped
-unfolding playPipeline newPart
-runs-until-stopped conf ws h =
-    runs-ends isDone (pipelineTurn ws conf) (Left (conf .transactions)) (turn-left conf ws h) (none-left conf ws h) (conf .transactions + 1002) newRan
+unfolding playPipeline newPart askedOf
+runs-until-stopped f g ws e =
+    let conf = confOf (askedOf f g) in
+    let h = few-transactions (askedOf f g) (eq-eqb (openRefusal (askedOf f g)) 0 e) in
+    runs-ends isDone (pipelineTurn ws conf) (Left (conf .transactions)) (turn-left conf ws h) (none-left conf ws h) _ newRan
     (λ d. record { count = 0; spent = (refl, omega arith); all = omega arith })

@@ -2,11 +2,15 @@
 use mathlib.Core.Bool.{true}
 use mathlib.Core.List.{List}
 use mathlib.Core.Path.{_≡_}
-use Prim.Native.Nat.{ℕ, _≤_}
-use Rattle.room.specs.declared.room.RoomConf.{RoomConf}
-use Rattle.frame.specs.Play.{isDone, playPipeline}
+use Prim.Native.Nat.{ℕ}
+use Rattle.graph.specs.declared.network.NetworkGraph.{NetworkGraph}
+use Rattle.room.specs.Rooms.{openRefusal, confOf}
+use Rattle.frame.specs.declared.line.Frame.{Frame}
+use Rattle.frame.specs.Play.{askedOf, isDone, playPipeline}
 
--- The number of turns in `playPipeline` cuts no pipeline room of t transactions short: after them the room has stopped, or a round was refused. Whatever
--- the room is and whatever the words are.
+-- The number of turns in `playPipeline` cuts no frame's room short: after them the room has stopped, or a round was refused. Whatever the links and the words
+-- are, as long as the room is accepted, without which nothing is played.
 abbrev pub RunsUntilStopped : Type 0
-RunsUntilStopped = (conf : RoomConf) (ws : List ℕ) → conf .transactions ≤ 64 → isDone (playPipeline (conf .transactions) ws conf) ≡ true
+RunsUntilStopped =
+    (f : Frame) (g : NetworkGraph) (ws : List ℕ) → openRefusal (askedOf f g) ≡ 0
+    → isDone (playPipeline (f .transactions) ws (confOf (askedOf f g))) ≡ true

@@ -1,9 +1,11 @@
 // The room that a frame asks for, and the calls that it makes.
 ghost use mathlib.Core.Path.{_≡_};
+ghost use mathlib.Core.Bool.{not, _||_};
+ghost use lib.Dec.{eqb};
 ghost use Prim.Native.Nat.{_<_, _^_};
 ghost use lib.Ieee.{binary64, ofBits, nanBits};
 ghost use Rattle.room.specs.Kinds.{positionsOf};
-ghost use Rattle.frame.specs.Play.{kindOf, settingsOf, askedOf, unlessRefused, proposing, capturing, captureTurn, newCaptured, playCapture, pipelineTurn, isDone, newRan, playPipeline, refusedBy, endOf, playOf, playedIn, playedOf};
+ghost use Rattle.frame.specs.Play.{kindOf, settingsOf, askedOf, unlessRefused, proposing, capturing, captureTurn, newCaptured, playCapture, pipelineTurn, newRan, playPipeline, refusedBy, endOf, playOf, playedIn, playedOf};
 use crate::line::Frame;
 use engines::network::Network;
 use engines::settings::Settings;
@@ -164,14 +166,13 @@ fn pipeline_turn(words: &[u64], conf: RoomConf, s: PipelineAnswer) -> PipelineAn
     pipeline_calls::pipeline_round(words, s.cursor, &mut row, s.used, conf, w, part)
 }
 
-fn is_done(s: PipelineAnswer) -> bool
-    ensures { λ r. ⌜ r ≡ isDone s ⌝ }
+fn is_done(refusal: u64, stop: bool) -> bool
+    ensures { λ r. ⌜ r ≡ (not (eqb refusal 0) || stop) ⌝ }
 {
-    if s.refusal != 0 {
+    if refusal != 0 {
         return true;
     }
-    let part = s.part;
-    part.stop
+    stop
 }
 
 fn new_ran() -> PipelineAnswer
@@ -193,7 +194,7 @@ fn play_pipeline(words: &[u64], conf: RoomConf, t: usize) -> PipelineAnswer
     let mut s = new_ran();
     let mut left = t + 1002;
     while 0 < left {
-        if is_done(s) {
+        if is_done(s.refusal, s.part.stop) {
             return s;
         }
         s = pipeline_turn(words, conf, s);

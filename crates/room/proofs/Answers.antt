@@ -12,18 +12,17 @@ use Rattle.engines.specs.Network.{orElse}
 use Rattle.room.specs.Kinds.{isPipeline, positionsOf}
 use Rattle.room.specs.Capturing.{proposeRefusal}
 use Rattle.room.specs.declared.room.RoomConf.{RoomConf}
-use Rattle.room.specs.declared.capture_calls.CapturePart.{CapturePart}
 
 -- an accepted proposal is one of the 64 places
-pub position-below : (c : RoomConf) (t : CapturePart) (v : ℕ) → proposeRefusal c t v ≡ 0 → v < 64
+pub position-below : (c : RoomConf) (term v : ℕ) → proposeRefusal c term v ≡ 0 → v < 64
 unfolding proposeRefusal
-position-below c t v e = go (ltb 0 n) (leb n 64) refl (leb n v) refl e
+position-below c term v e = go (ltb 0 n) (leb n 64) refl (leb n v) refl e
   where
     n : ℕ
     n = positionsOf c
 
     rest : ℕ
-    rest = either (isPipeline (c .kind)) otherKind (either (eqb (t .term) lastTerm) noTerm 0)
+    rest = either (isPipeline (c .kind)) otherKind (either (eqb term lastTerm) noTerm 0)
 
     go : (x y : Bool) → leb n 64 ≡ y → (z : Bool) → leb n v ≡ z → either (not (x && y)) badPositions (either z noPosition rest) ≡ 0 → v < 64
     go false y p z q w = absurd (let u : _≡_ {A = ℕ} 2 0 = w in omega arith)

@@ -36,7 +36,6 @@ use Rattle.room.specs.declared.room.RoomConf.{RoomConf}
 use Rattle.room.specs.declared.room.Room.{Room}
 use Rattle.room.specs.declared.room.Asked.{Asked}
 use Rattle.room.specs.declared.room.Opening.{Opening}
-use Rattle.room.specs.declared.capture_calls.CapturePart.{CapturePart}
 use Rattle.room.specs.declared.capture_calls.Proposed.{Proposed}
 use Rattle.room.specs.declared.capture_calls.Captured.{Captured}
 use Rattle.room.specs.Kinds.{isPipeline, positionsOf}
@@ -135,9 +134,9 @@ proposed-quiet r v i h l =
 pub propose-way : (r : Room) (v : ℕ) → Inv r → Way r [] (proposeOf r v .room)
 unfolding proposeOf proposePart proposeRefusal
 propose-way r v i =
-    either-cases (λ (x : Proposed). Way r [] (withCapture r (r .network) (x .part))) (eqb (proposeRefusal (r .conf) (r .capture) v) 0)
+    either-cases (λ (x : Proposed). Way r [] (withCapture r (r .network) (x .part))) (eqb (proposeRefusal (r .conf) (r .capture .term) v) 0)
     (λ e.
-    let f = propose-fine (not (isSize (sizeOf r))) (leb (sizeOf r) v) (isPipeline (r .conf .kind)) (eqb (r .capture .term) lastTerm) (eqb-true (proposeRefusal (r .conf) (r .capture) v) 0 e) in
+    let f = propose-fine (not (isSize (sizeOf r))) (leb (sizeOf r) v) (isPipeline (r .conf .kind)) (eqb (r .capture .term) lastTerm) (eqb-true (proposeRefusal (r .conf) (r .capture .term) v) 0 e) in
     quiet-way (proposed-quiet r v i (leb-false (sizeOf r) v (f .0)) (below (r .capture .term) (i .term) (eqb-false (r .capture .term) lastTerm (f .1)))))
     (λ e. way-none r i)
   where
@@ -237,9 +236,9 @@ captured-way ws r cursor i h =
     last-quiet (first-quiet q w) (end-quiet r _ (w .inv))
 
 -- what an accepted round knows
-pub round-fine : (c : RoomConf) (t : CapturePart) (slot : ℕ) → captureRefusal c t slot ≡ 0 → longRefusal (c .round) slot ≡ 0
+pub round-fine : (c : RoomConf) (proposed : Bool) (slot : ℕ) → captureRefusal c proposed slot ≡ 0 → longRefusal (c .round) slot ≡ 0
 unfolding captureRefusal
-round-fine c t slot e = by (not (isSize (positionsOf c))) (isPipeline (c .kind)) (not (t .proposed)) e
+round-fine c proposed slot e = by (not (isSize (positionsOf c))) (isPipeline (c .kind)) (not proposed) e
   where
     by : (x y z : Bool) → either x badPositions (either y otherKind (either z noProposal (longRefusal (c .round) slot))) ≡ 0 → longRefusal (c .round) slot ≡ 0
     by true y z w = absurd (let u : _≡_ {A = ℕ} 2 0 = w in omega arith)
@@ -253,7 +252,7 @@ unfolding captureOf capturePart capturedBy answerOf
 capture-way ws numbers used cursor r i =
     either-cases Fine (eqb early 0)
     (λ e. either-cases (λ (a : CeAnswer). Fine (capturedBy (r .conf) (r .network) (r .capture) cursor used a)) (eqb k 0)
-    (λ f. captured-way ws r cursor i (length-fits (r .conf .round) (r .network .slot) (round-fine (r .conf) (r .capture) (r .network .slot) (eqb-true early 0 e))))
+    (λ f. captured-way ws r cursor i (length-fits (r .conf .round) (r .network .slot) (round-fine (r .conf) (r .capture .proposed) (r .network .slot) (eqb-true early 0 e))))
     (λ f. rw f (refused-way k (captureSlots ws cursor r) r i f)))
     (λ e. refused-way early (captureSlots ws cursor r) r i e)
   where
@@ -261,7 +260,7 @@ capture-way ws numbers used cursor r i =
     Fine x = Way r (either (eqb (x .refusal) 0) (captureSlots ws cursor r) []) (withCapture r (x .network) (x .part))
 
     early : ℕ
-    early = captureRefusal (r .conf) (r .capture) (r .network .slot)
+    early = captureRefusal (r .conf) (r .capture .proposed) (r .network .slot)
 
     k : ℕ
     k = refusalOf ws numbers used (r .conf .round) (startIn r cursor)

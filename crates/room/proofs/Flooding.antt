@@ -26,7 +26,6 @@ use Rattle.pipeline.specs.Pipeline.{noState, progressed, progressAt, progressAl
 use Rattle.pipeline.specs.Round.{initiatorOf, preparing, bytesOf, floodFrom, floodOf, closeRound, runRound, earlyRefusal, startDraw, roundRefusal, roundAnswer}
 use Rattle.pipeline.specs.declared.prepare.Prepared.{Prepared}
 use Rattle.pipeline.specs.declared.pipeline.PipelineAnswer.{PipelineAnswer}
-use Rattle.pipeline.specs.declared.pipeline.PipelinePart.{PipelinePart}
 use Rattle.pipeline.proofs.Rounding.{early-length}
 use Rattle.pipeline.proofs.KeptLogs.{close-kept, preparing-kept}
 use Rattle.room.specs.declared.room.Room.{Room}
@@ -125,11 +124,11 @@ ran-way ws r cursor v h =
     last-quiet (first-quiet q w) (closed-quiet ws r i prep _ (w .inv))
 
 -- what an accepted round knows
-round-fine : (c : RoomConf) (p : PipelinePart) (slot : ℕ) → pipelineRefusal c p slot ≡ 0 → earlyRefusal (pipeConf c) slot (p .stop) ≡ 0
+round-fine : (c : RoomConf) (stop : Bool) (slot : ℕ) → pipelineRefusal c stop slot ≡ 0 → earlyRefusal (pipeConf c) slot stop ≡ 0
 unfolding pipelineRefusal
-round-fine c p slot e = by (not (isSize (positionsOf c))) (not (isPipeline (c .kind))) e
+round-fine c stop slot e = by (not (isSize (positionsOf c))) (not (isPipeline (c .kind))) e
   where
-    by : (x y : Bool) → either x badPositions (either y otherKind (earlyRefusal (pipeConf c) slot (p .stop))) ≡ 0 → earlyRefusal (pipeConf c) slot (p .stop) ≡ 0
+    by : (x y : Bool) → either x badPositions (either y otherKind (earlyRefusal (pipeConf c) slot stop)) ≡ 0 → earlyRefusal (pipeConf c) slot stop ≡ 0
     by true y w = absurd (let u : _≡_ {A = ℕ} 2 0 = w in omega arith)
     by false true w = absurd (let u : _≡_ {A = ℕ} 11 0 = w in omega arith)
     by false false w = w
@@ -140,7 +139,7 @@ unfolding pipelineOf pipelinePart roundAnswer
 pipeline-way ws numbers used cursor r v =
     either-cases Told (eqb early 0)
     (λ b. either-cases Told (eqb late 0)
-    (λ c. ran-way ws r cursor v (early-length (pipeConf (r .conf)) (r .network .slot) (r .pipeline .stop) (round-fine (r .conf) (r .pipeline) (r .network .slot) (eqb-true early 0 b))))
+    (λ c. ran-way ws r cursor v (early-length (pipeConf (r .conf)) (r .network .slot) (r .pipeline .stop) (round-fine (r .conf) (r .pipeline .stop) (r .network .slot) (eqb-true early 0 b))))
     (λ c. refused-way late (pipelineSlots ws cursor r) r v c))
     (λ b. refused-way early (pipelineSlots ws cursor r) r v b)
   where
@@ -148,7 +147,7 @@ pipeline-way ws numbers used cursor r v =
     Told a = Way r (either (eqb (a .refusal) 0) (pipelineSlots ws cursor r) []) (withPipeline r (a .network) (a .part))
 
     early : ℕ
-    early = pipelineRefusal (r .conf) (r .pipeline) (r .network .slot)
+    early = pipelineRefusal (r .conf) (r .pipeline .stop) (r .network .slot)
 
     late : ℕ
     late = roundRefusal ws numbers used (pipeConf (r .conf)) (r .network) (r .pipeline) cursor

@@ -28,7 +28,7 @@ both P false f g = g refl
 propose-leaves : (r : Room) (v : ℕ) → (proposeOf r v .refusal ≡ 0 → ⊥) → proposeOf r v .room ≡ r
 unfolding proposeOf proposePart
 propose-leaves r v =
-    either-cases (λ (a : Proposed). (a .refusal ≡ 0 → ⊥) → withCapture r (r .network) (a .part) ≡ r) (eqb (proposeRefusal (r .conf) (r .capture) v) 0)
+    either-cases (λ (a : Proposed). (a .refusal ≡ 0 → ⊥) → withCapture r (r .network) (a .part) ≡ r) (eqb (proposeRefusal (r .conf) (r .capture .term) v) 0)
     (λ e h. absurd (h refl))
     (λ e h. refl)
 
@@ -43,7 +43,7 @@ module _ (ws rows : List ℕ) (used : ℕ) (r : Room) (cursor : ℕ) where
   capture-leaves : Fine (captureOf ws (length rows) used r cursor) (captureBuffer ws rows used r cursor)
   unfolding captureOf capturePart captureRows capturedBy answerOf bufferOf
   capture-leaves =
-      both (λ (a : Captured) (left : List ℕ). Fine (captured r a) left) (eqb (captureRefusal (r .conf) (r .capture) (r .network .slot)) 0)
+      both (λ (a : Captured) (left : List ℕ). Fine (captured r a) left) (eqb (captureRefusal (r .conf) (r .capture .proposed) (r .network .slot)) 0)
       (λ d. both (λ (a : CeAnswer) (left : List ℕ). Fine (captured r (capturedBy (r .conf) (r .network) (r .capture) cursor used a)) left) (eqb k 0)
       (λ e h. absurd (h refl))
       (λ e. rw e (λ h. kept)))
@@ -55,7 +55,7 @@ module _ (ws rows : List ℕ) (used : ℕ) (r : Room) (cursor : ℕ) where
   pipeline-leaves : Fine (pipelineOf ws (length rows) used r cursor) (pipelineBuffer ws rows used r cursor)
   unfolding pipelineOf pipelinePart pipelineRows roundAnswer roundBuffer
   pipeline-leaves =
-      both Told (eqb (pipelineRefusal (r .conf) (r .pipeline) (r .network .slot)) 0)
+      both Told (eqb (pipelineRefusal (r .conf) (r .pipeline .stop) (r .network .slot)) 0)
       (λ d. both Told (eqb (roundRefusal ws (length rows) used (pipeConf (r .conf)) (r .network) (r .pipeline) cursor) 0)
       (λ e h. absurd (h refl))
       (λ e h. kept))

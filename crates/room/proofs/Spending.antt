@@ -40,11 +40,6 @@ within-few {t} {k} {r} w = omega (arith, w .transactions, spent-few (r .conf .tr
 pub spent-going : (t k r : ℕ) → Spent t k false r → k ≤ t + 1001
 spent-going t k r s = omega (arith, s .0, s .1)
 
-pub within-going : {t k : ℕ} {r : Room} → r .pipeline .stop ≡ false → Within t k r → k ≤ t + 1001
-within-going {t} {k} {r} e w =
-    let s : Spent (r .conf .transactions) k false (r .pipeline .round) = subst (λ (b : Bool). Spent (r .conf .transactions) k b (r .pipeline .round)) e (w .spent) in
-    omega (arith, w .transactions, spent-going (r .conf .transactions) k (r .pipeline .round) s)
-
 pub more : {t k : ℕ} {r : Room} → Within t k r → Within t (k + 0) r
 more {t} {k} {r} w = subst (λ (j : ℕ). Within t j r) (none k) w
   where
@@ -61,7 +56,7 @@ part-spent ws numbers used c w p cursor k bounded s =
     (λ e. spent-refused (c .transactions) k (p .stop) (p .round) early e s)
   where
     early : ℕ
-    early = pipelineRefusal c p (w .slot)
+    early = pipelineRefusal c (p .stop) (w .slot)
 
 module _ (t k : ℕ) (r : Room) (w : Within t k r) where
   -- the calls of a capture room leave the part of a pipeline
@@ -99,7 +94,7 @@ links-passed links rest h = by (eqb links 0) refl h
     by true e q = q
     by false e q = absurd (let z : _≡_ {A = ℕ} 0 1 = cc in omega arith)
 
-few-transactions : (a : Asked) → eqb (openRefusal a) 0 ≡ true → a .transactions ≤ 64
+pub few-transactions : (a : Asked) → eqb (openRefusal a) 0 ≡ true → a .transactions ≤ 64
 unfolding openRefusal
 few-transactions a h =
     ltb-false transactions (a .transactions)

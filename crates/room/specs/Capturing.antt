@@ -48,12 +48,12 @@ newCapture term = record { term = term; initiator = 0; proposed = false; raised 
 
 -- ---- propose (2, 8, 11, 13)
 
-unfoldable pub proposeRefusal : RoomConf → CapturePart → ℕ → ℕ
-proposeRefusal c t v =
+unfoldable pub proposeRefusal : RoomConf → ℕ → ℕ → ℕ
+proposeRefusal c term v =
     either (not (isSize (positionsOf c))) badPositions
     (either (leb (positionsOf c) v) noPosition
     (either (isPipeline (c .kind)) otherKind
-    (either (eqb (t .term) lastTerm) noTerm 0)))
+    (either (eqb term lastTerm) noTerm 0)))
 
 -- The term rises by one, position v holds its proposal and all others nothing. Nothing else changes.
 unfoldable pub proposedIn : RoomConf → CapturePart → ℕ → CapturePart
@@ -68,17 +68,17 @@ proposedIn c t v =
 
 unfoldable pub proposePart : RoomConf → CapturePart → ℕ → Proposed
 proposePart c t v =
-    let k = proposeRefusal c t v in
+    let k = proposeRefusal c (t .term) v in
     either (eqb k 0) (record { refusal = 0; part = proposedIn c t v }) (record { refusal = k; part = t })
 
 -- ---- a round (2, 11, 12, then 15 to 17 by the engine)
 
 -- the refusals that are known before it runs
-unfoldable pub captureRefusal : RoomConf → CapturePart → ℕ → ℕ
-captureRefusal c t slot =
+unfoldable pub captureRefusal : RoomConf → Bool → ℕ → ℕ
+captureRefusal c proposed slot =
     either (not (isSize (positionsOf c))) badPositions
     (either (isPipeline (c .kind)) otherKind
-    (either (not (t .proposed)) noProposal (longRefusal (c .round) slot)))
+    (either (not proposed) noProposal (longRefusal (c .round) slot)))
 
 -- the state that it starts from
 abbrev pub ceState : Network → CapturePart → CeState
@@ -126,11 +126,11 @@ capturedBy c w t cursor used a =
 
 unfoldable pub capturePart : List ℕ → ℕ → ℕ → RoomConf → Network → CapturePart → ℕ → Captured
 capturePart ws numbers used c w t cursor =
-    let k = captureRefusal c t (w .slot) in
+    let k = captureRefusal c (t .proposed) (w .slot) in
     either (eqb k 0)
     (capturedBy c w t cursor used (answerOf ws numbers used (c .round) (ceState w t) (t .initiator) cursor))
     (refusedCapture k w t cursor used)
 
 unfoldable pub captureRows : List ℕ → List ℕ → ℕ → RoomConf → Network → CapturePart → ℕ → List ℕ
 captureRows ws rows used c w t cursor =
-    either (eqb (captureRefusal c t (w .slot)) 0) (bufferOf ws rows used (c .round) (ceState w t) (t .initiator) cursor) rows
+    either (eqb (captureRefusal c (t .proposed) (w .slot)) 0) (bufferOf ws rows used (c .round) (ceState w t) (t .initiator) cursor) rows

@@ -90,8 +90,8 @@ impl CapturePart {
 
 // ---- propose
 
-fn propose_refusal(conf: RoomConf, t: CapturePart, v: usize) -> u64
-    ensures { λ r. ⌜ r ≡ proposeRefusal conf t v ⌝ }
+fn propose_refusal(conf: RoomConf, term: u64, v: usize) -> u64
+    ensures { λ r. ⌜ r ≡ proposeRefusal conf term v ⌝ }
 {
     let n = conf.round.graph.n;
     if !room::is_size(n) {
@@ -104,7 +104,7 @@ fn propose_refusal(conf: RoomConf, t: CapturePart, v: usize) -> u64
     if room::is_pipeline(kind) {
         return refusals::OTHER_KIND;
     }
-    if t.term == limits::LAST_TERM {
+    if term == limits::LAST_TERM {
         return refusals::NO_TERM;
     }
     0
@@ -136,7 +136,7 @@ fn propose_in(conf: RoomConf, t: CapturePart, v: usize) -> CapturePart
 pub fn propose(conf: RoomConf, t: CapturePart, v: usize) -> Proposed
     ensures { λ r. ⌜ r ≡ proposePart conf t v ⌝ }
 {
-    let refusal = propose_refusal(conf, t, v);
+    let refusal = propose_refusal(conf, t.term, v);
     if refusal != 0 {
         return Proposed { refusal, part: t };
     }
@@ -149,8 +149,8 @@ pub fn propose(conf: RoomConf, t: CapturePart, v: usize) -> Proposed
 // ---- a round
 
 // The refusals that are known before a round runs.
-pub fn capture_refusal(conf: RoomConf, t: CapturePart, slot: u64) -> u64
-    ensures { λ r. ⌜ r ≡ captureRefusal conf t slot ⌝ }
+pub fn capture_refusal(conf: RoomConf, proposed: bool, slot: u64) -> u64
+    ensures { λ r. ⌜ r ≡ captureRefusal conf proposed slot ⌝ }
 {
     let n = conf.round.graph.n;
     if !room::is_size(n) {
@@ -160,7 +160,7 @@ pub fn capture_refusal(conf: RoomConf, t: CapturePart, slot: u64) -> u64
     if room::is_pipeline(kind) {
         return refusals::OTHER_KIND;
     }
-    if !t.proposed {
+    if !proposed {
         return refusals::NO_PROPOSAL;
     }
     let round = conf.round;
@@ -290,7 +290,7 @@ pub fn capture_round(
     ensures { λ r. ⌜ r ≡ capturePart (now (words .entry)) (length (now (rows .entry))) used conf w t cursor ⌝ }
     ensures { λ _. ⌜ now (rows .exit) ≡ captureRows (now (words .entry)) (now (rows .entry)) used conf w t cursor ⌝ }
 {
-    let refusal = capture_refusal(conf, t, w.slot);
+    let refusal = capture_refusal(conf, t.proposed, w.slot);
     if refusal != 0 {
         return Captured {
             refusal,

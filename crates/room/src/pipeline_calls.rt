@@ -23,8 +23,8 @@ fn pipe_conf(c: RoomConf) -> PipelineConf
 }
 
 // The refusals that are known before a round runs.
-pub fn pipeline_refusal(conf: RoomConf, p: PipelinePart, slot: u64) -> u64
-    ensures { λ r. ⌜ r ≡ pipelineRefusal conf p slot ⌝ }
+pub fn pipeline_refusal(conf: RoomConf, stop: bool, slot: u64) -> u64
+    ensures { λ r. ⌜ r ≡ pipelineRefusal conf stop slot ⌝ }
 {
     let n = conf.round.graph.n;
     if !room::is_size(n) {
@@ -35,7 +35,7 @@ pub fn pipeline_refusal(conf: RoomConf, p: PipelinePart, slot: u64) -> u64
         return refusals::OTHER_KIND;
     }
     let fixed = pipe_conf(conf);
-    engine::early_refusal(fixed, slot, p.stop)
+    engine::early_refusal(fixed, slot, stop)
 }
 
 // One pipeline round: prepare, flood, process.
@@ -51,7 +51,7 @@ pub fn pipeline_round(
     ensures { λ r. ⌜ r ≡ pipelinePart (now (words .entry)) (length (now (rows .entry))) used conf w p cursor ⌝ }
     ensures { λ _. ⌜ now (rows .exit) ≡ pipelineRows (now (words .entry)) (now (rows .entry)) used conf w p cursor ⌝ }
 {
-    let refusal = pipeline_refusal(conf, p, w.slot);
+    let refusal = pipeline_refusal(conf, p.stop, w.slot);
     if refusal != 0 {
         return PipelineAnswer {
             refusal,

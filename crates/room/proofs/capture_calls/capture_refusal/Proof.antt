@@ -16,12 +16,12 @@ returns-2 c = rw (sym (c .before .before .before .is-size .ensures) ∙ not-fals
 returns-3 : tie.Need-returns-3
 unfolding captureRefusal
 returns-3 c =
-    rw (sym (c .before .before .before .before .before .is-size .ensures) ∙ not-false _ (c .before .before .before .before .if1 .left), sym (c .before .before .before .is-pipeline .ensures) ∙ c .before .before .if2 .left, not-true (c .before .before .before .before .before .before .args .t .proposed) (c .if3 .taken))
+    rw (sym (c .before .before .before .before .is-size .ensures) ∙ not-false _ (c .before .before .before .if1 .left), sym (c .before .before .is-pipeline .ensures) ∙ c .before .if2 .left, not-true (c .before .before .before .before .before .args .proposed) (c .if3 .taken))
 
 returns-4 : tie.Need-returns-4
 unfolding captureRefusal
 returns-4 c =
-    rw (sym (c .before .before .before .before .before .before .before .is-size .ensures) ∙ not-false _ (c .before .before .before .before .before .before .if1 .left), sym (c .before .before .before .before .before .is-pipeline .ensures) ∙ c .before .before .before .before .if2 .left, not-false (c .before .before .before .before .before .before .before .before .args .t .proposed) (c .before .before .if3 .left)) (c .long-refusal .ensures)
+    rw (sym (c .before .before .before .before .before .before .is-size .ensures) ∙ not-false _ (c .before .before .before .before .before .if1 .left), sym (c .before .before .before .before .is-pipeline .ensures) ∙ c .before .before .before .if2 .left, not-false (c .before .before .before .before .before .before .before .args .proposed) (c .before .before .if3 .left)) (c .long-refusal .ensures)
 
 pub capture-refusal-spec : {M : Type 1} → statement M
 capture-refusal-spec = tie.close (tie.spec

@@ -20,12 +20,12 @@ returns-3 c = rw (sym (c .before .before .before .before .is-size .ensures) ∙ 
 returns-4 : tie.Need-returns-4
 unfolding proposeRefusal
 returns-4 c =
-    rw (sym (c .before .before .before .before .before .before .is-size .ensures) ∙ not-false _ (c .before .before .before .before .before .if1 .left), lt-leb _ _ (c .before .before .before .before .if2 .left), sym (c .before .before .before .is-pipeline .ensures) ∙ c .before .before .if3 .left, eq-eqb _ _ (c .if4 .taken))
+    rw (sym (c .before .before .before .before .before .is-size .ensures) ∙ not-false _ (c .before .before .before .before .if1 .left), lt-leb _ _ (c .before .before .before .if2 .left), sym (c .before .before .is-pipeline .ensures) ∙ c .before .if3 .left, eq-eqb _ _ (c .if4 .taken))
 
 returns-5 : tie.Need-returns-5
 unfolding proposeRefusal
 returns-5 c =
-    rw (sym (c .before .before .before .before .before .before .is-size .ensures) ∙ not-false _ (c .before .before .before .before .before .if1 .left), lt-leb _ _ (c .before .before .before .before .if2 .left), sym (c .before .before .before .is-pipeline .ensures) ∙ c .before .before .if3 .left, ne-eqb _ _ (c .if4 .left))
+    rw (sym (c .before .before .before .before .before .is-size .ensures) ∙ not-false _ (c .before .before .before .before .if1 .left), lt-leb _ _ (c .before .before .before .if2 .left), sym (c .before .before .is-pipeline .ensures) ∙ c .before .if3 .left, ne-eqb _ _ (c .if4 .left))
 
 pub propose-refusal-spec : {M : Type 1} → statement M
 propose-refusal-spec = tie.close (tie.spec
