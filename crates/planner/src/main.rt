@@ -1,7 +1,12 @@
 // Reads frames from standard input, one to a line, and prints the listing line of each.
-ghost use Prim.Native.Nat.{_≤_, _<_};
-ghost use lib.ListN.{length};
+ghost use mathlib.Core.Bool.{true, false};
+ghost use mathlib.Core.Path.{_≡_};
+ghost use Prim.Native.Nat.{ℕ, _+_, _≤_, _<_};
+ghost use lib.IntN.{pos};
+ghost use lib.ListN.{length, take, drop};
 ghost use Rattle.frame.specs.Bounds.{keptBytes, frameWords, endedBytes};
+ghost use Rattle.lines.specs.Feeding.{endOut};
+ghost use Rattle.planner.specs.Turns.{leftOf, TakesIn};
 use frame::bounds;
 use lines::feed;
 
@@ -38,10 +43,10 @@ fn flush(out: &[u8], used: usize) -> bool
 }
 
 // What a read brought is answered before the next read: who waits for a line's answer gets it. Where the output is full
-// it is written, and filled anew.
+// it is written, and filled anew. From the place handed back on stands the line that is left, if nothing failed.
 fn answer(text: &[u8], n: usize, words: &mut [u64], out: &mut [u8]) -> Answered
     requires { ⌜ (n ≤ length (now text)) × (frameWords ≤ length (now words)) × (endedBytes ≤ length (now out)) ⌝ }
-    ensures { λ r. ⌜ r .from ≤ length (now (text .entry)) ⌝ }
+    ensures { λ r. ⌜ (r .from ≤ length (now (text .entry))) × (r .failed ≡ false → drop (r .from) (now (text .entry)) ≡ leftOf (take n (now (text .entry))) (drop n (now (text .entry)))) ⌝ }
 {
     let mut from: usize = 0;
     let mut at = n;
@@ -59,24 +64,58 @@ fn answer(text: &[u8], n: usize, words: &mut [u64], out: &mut [u8]) -> Answered
     }
 }
 
-fn end_with(n: usize) -> Turn
-    requires { ⌜ n ≤ keptBytes ⌝ }
-    ensures { λ r. ⌜ r .n ≤ keptBytes ⌝ }
+fn answer_last(line: &[u8], words: &mut [u64], out: &mut [u8])
+    ensures { λ _. ⌜ now (out .exit) ≡ endOut (now (line .entry)) (length (now (words .entry))) (now (out .entry)) ⌝ }
 {
-    Turn { n, over: true }
+    let last = feed::finish(line, words, out);
+    flush(out, last.len);
+}
+
+fn ended() -> Turn
+    ensures { λ r. ⌜ (r .n ≡ 0) × (r .over ≡ true) ⌝ }
+{
+    Turn { n: 0, over: true }
 }
 
 // A read that a signal cut short is made again; one that fails ends the program, and standard error says so: of a line
 // that could not be read to its end nothing is listed.
 fn not_read(n: usize) -> Turn
-    requires { ⌜ n ≤ keptBytes ⌝ }
-    ensures { λ r. ⌜ r .n ≤ keptBytes ⌝ }
+    ensures { λ r. ⌜ (r .n ≤ n) × (r .over ≡ false → r .n ≡ n) ⌝ }
 {
     if os::errno() == libc::EINTR {
         return Turn { n, over: false };
     }
     os::fail(b"planner: cannot read");
-    end_with(0)
+    ended()
+}
+
+// Of the text the first n bytes are the present line, and the others were read. If none were, the input is over, and
+// the present line is its last.
+fn take_in(text: &mut [u8], n: usize, words: &mut [u64], out: &mut [u8]) -> Turn
+    requires { ⌜ (n ≤ length (now text)) × (frameWords ≤ length (now words)) × (endedBytes ≤ length (now out)) ⌝ }
+    ensures { λ r. ⌜ TakesIn (now (text .entry)) (now (out .entry)) n (length (now (words .entry))) (r .n) (r .over) (now (text .exit)) (now (out .exit)) ⌝ }
+{
+    if text.len() == n {
+        answer_last(text, words, out);
+        return ended();
+    }
+    let answered = answer(text, n, words, out);
+    if answered.failed {
+        return ended();
+    }
+    Turn {
+        n: feed::keep(text, answered.from),
+        over: false,
+    }
+}
+
+// A read that did not fail answered how many bytes it brought behind the n of the present line.
+fn after_read(buf: &mut [u8], n: usize, got: isize, words: &mut [u64], out: &mut [u8]) -> Turn
+    requires { ⌜ (n ≤ length (now buf)) × (frameWords ≤ length (now words)) × (endedBytes ≤ length (now out)) ⌝ }
+    ensures { λ r. ⌜ (r .n ≤ keptBytes) × ((k : ℕ) → got ≡ pos k → n + k ≤ length (now (buf .entry)) → TakesIn (take (n + k) (now (buf .entry))) (now (out .entry)) n (length (now (words .entry))) (r .n) (r .over) (take (n + k) (now (buf .exit))) (now (out .exit))) ⌝ }
+{
+    let end = n + io::count(got, &buf[n..]);
+    take_in(&mut buf[0..end], n, words, out)
 }
 
 // One read behind the n bytes of the present line, which may bring few bytes.
@@ -88,47 +127,27 @@ fn one_turn(buf: &mut [u8], n: usize, words: &mut [u64], out: &mut [u8]) -> Turn
     if got < 0 {
         return not_read(n);
     }
-    if got == 0 {
-        return end_with(n);
-    }
-    let end = n + io::count(got, &buf[n..]);
-    let answered = answer(&buf[0..end], n, words, out);
-    if answered.failed {
-        return end_with(0);
-    }
-    Turn {
-        n: feed::keep(&mut buf[0..end], answered.from),
-        over: false,
-    }
+    after_read(buf, n, got, words, out)
 }
 
-// The bytes of a last line that has no end; 0 if there is none.
-fn read_all(buf: &mut [u8], words: &mut [u64], out: &mut [u8]) -> usize
+fn read_all(buf: &mut [u8], words: &mut [u64], out: &mut [u8])
     requires { ⌜ (keptBytes < length (now buf)) × (frameWords ≤ length (now words)) × (endedBytes ≤ length (now out)) ⌝ }
-    ensures { λ r. ⌜ r ≤ keptBytes ⌝ }
 {
     let mut turns = u64::MAX;
     let mut n: usize = 0;
     while turns > 0 {
         turns -= 1;
         let t = one_turn(buf, n, words, out);
-        n = t.n;
         if t.over {
-            return n;
+            return;
         }
+        n = t.n;
     }
-    n
-}
-
-fn answer_last(line: &[u8], words: &mut [u64], out: &mut [u8]) {
-    let last = feed::finish(line, words, out);
-    flush(out, last.len);
 }
 
 fn main() {
     let mut buf = [0u8; INPUT];
     let mut words = [0u64; bounds::WORDS];
     let mut out = [0u8; OUTPUT];
-    let n = read_all(&mut buf, &mut words, &mut out);
-    answer_last(&buf[0..n], &mut words, &mut out);
+    read_all(&mut buf, &mut words, &mut out);
 }
