@@ -4,18 +4,14 @@ use mathlib.Core.List.{List, [], _∷_, _++_}
 use mathlib.Core.Path.{_≡_}
 use Prim.Native.Nat.{ℕ, _≤_}
 use lib.ListN.{length, take, drop}
+use Rattle.loops.specs.Pick.{either}
 use Rattle.lines.specs.Feeding.{keptBytes, endsLine, keptFrom, keptIn, endOut}
-
--- by whether a byte ends the line
-abbrev pub leftBy : Bool → List ℕ → List ℕ → List ℕ
-leftBy true behind on = behind
-leftBy false behind on = on
 
 -- What bytes leave of a line so far: the bytes behind the last line end among them, or, if there is none, the line and
 -- all of them.
 unfoldable pub leftOf : List ℕ → List ℕ → List ℕ
 leftOf line [] = line
-leftOf line (b ∷ bs) = leftBy (endsLine b) (leftOf [] bs) (leftOf (line ++ (b ∷ [])) bs)
+leftOf line (b ∷ bs) = either (endsLine b) (leftOf [] bs) (leftOf (line ++ (b ∷ [])) bs)
 
 -- The first n bytes of a text are the present line, the others were read, and the line that they leave is the text from
 -- a place on: of that as much as is worth keeping went to the front.
