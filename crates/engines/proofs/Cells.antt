@@ -1,0 +1,47 @@
+-- Columns of a table, told by their numbers. Assumes nothing.
+use Prim.Native.Nat.{ℕ, _+_, _≤_, _<_}
+use mathlib.Core.Bool.{Bool}
+use mathlib.Core.List.{List}
+use mathlib.Core.Path.{_≡_, refl, sym, ap, _∙_}
+use lib.ListN.{length, set, getD, take, drop, length-set, length-drop}
+use lib.Seq.{getD-set-other, getD-take, getD-drop, take-set-lt, drop-set-add, length-take-le}
+use native.Mathlib.Omega.{arith}
+use Rattle.loops.specs.Pick.{either}
+use Rattle.marks.specs.Marks.{has}
+use Rattle.engines.specs.Marked.{overMarks, place}
+use Rattle.engines.specs.Columns.{cell, cellBy}
+use Rattle.engines.proofs.Marking.{over-through, over-keeps}
+use Rattle.engines.proofs.Places.{over-get}
+
+-- the column as a list of its own
+abbrev column : List ℕ → ℕ → List ℕ
+column x k = take 64 (drop k x)
+
+column-get : (x : List ℕ) (k i : ℕ) → i < 64 → getD (column x k) i 0 ≡ getD x (k + i) 0
+column-get x k i h = getD-take 64 (drop k x) i 0 h ∙ getD-drop k x i 0
+
+column-length : (x : List ℕ) (k : ℕ) → k + 64 ≤ length x → length (column x k) ≡ 64
+column-length x k h = length-take-le 64 (drop k x) (omega (arith, length-drop k x))
+
+module _ (k : ℕ) (f : ℕ → ℕ) (m : ℕ) (x : List ℕ) where
+  changed : ℕ → (s : List ℕ) (i : ℕ) → i < 64 → column (cellBy k f i s) k ≡ place 0 (λ j. f) i (column s k)
+  changed z s i h =
+      ap (take 64) (drop-set-add k s i (f (getD s (k + i) 0))) ∙ take-set-lt 64 (drop k s) i (f (getD s (k + i) 0)) h
+      ∙ ap (λ (v : ℕ). set (column s k) i (f v)) (sym (column-get s k i h))
+
+  -- a number changes just if the set has its mark
+  pub cells-own : (i : ℕ) → i < 64 → k + 64 ≤ length x → cell (overMarks m (cellBy k f) x) k i ≡ either (has m i) (f (cell x k i)) (cell x k i)
+  unfolding cell
+  cells-own i h long =
+      sym (column-get (overMarks m (cellBy k f) x) k i h)
+      ∙ ap (λ (l : List ℕ). getD l i 0) (over-through (λ s. column s k) (cellBy k f) (place 0 (λ j. f)) (λ j b s. changed 0 s j b) m x)
+      ∙ over-get 0 (λ j. f) m (column x k) i (column-length x k long) h
+      ∙ ap (λ (v : ℕ). either (has m i) (f v) v) (column-get x k i h)
+
+  -- and no number of another column does
+  pub cells-other : (p i : ℕ) → i < 64 → ((j : ℕ) → j < 64 → p + i ≡ k + j → ⊥) → cell (overMarks m (cellBy k f) x) p i ≡ cell x p i
+  unfolding cell
+  cells-other p i h apart = over-keeps (λ s. getD s (p + i) 0) (cellBy k f) (λ j b s. getD-set-other s (k + j) (p + i) (f (getD s (k + j) 0)) 0 (apart j b)) m x
+
+  pub cells-length : length (overMarks m (cellBy k f) x) ≡ length x
+  cells-length = over-keeps length (cellBy k f) (λ j b s. length-set s (k + j) (f (getD s (k + j) 0))) m x

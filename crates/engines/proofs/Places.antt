@@ -1,0 +1,162 @@
+-- THE LAW: a loop whose turn i changes place i alone, told by its places. `Local d step g` says that of a step; loops over all positions and
+-- loops over the marks of a set are two of its instances. Assumes nothing.
+use Prim.Native.Nat.{ℕ, zero, suc, _≤_, _<_}
+use mathlib.Core.Bool.{Bool, true, false}
+use mathlib.Core.List.{List}
+use mathlib.Core.Path.{_≡_, refl, sym, ap, _∙_}
+use lib.Dec.{eqb, ltb}
+use lib.ListN.{length, set, getD, length-set}
+use lib.Seq.{getD-set-same, getD-set-other, ext-getD}
+use native.Mathlib.Omega.{arith}
+use borrow.Author.Tests.{eqb-true, eqb-false, ltb-true, ltb-false}
+use Rattle.loops.specs.Pick.{either}
+use Rattle.loops.specs.Upto.{upto, upto-keeps}
+use Rattle.marks.specs.Marks.{has}
+use Rattle.engines.specs.Marked.{overMarks, place}
+
+-- step i puts g i of what stands at place i there, and touches nothing else
+pub record Local {A : Type 0} (d : A) (step : ℕ → List A → List A) (g : ℕ → A → A) : Type 0 where
+  pub long : (i : ℕ) (l : List A) → length (step i l) ≡ length l
+  pub own : (i : ℕ) (l : List A) → i < length l → getD (step i l) i d ≡ g i (getD l i d)
+  pub other : (i : ℕ) (l : List A) (j : ℕ) → (j ≡ i → ⊥) → getD (step i l) j d ≡ getD l j d
+
+pub place-local : {A : Type 0} (d : A) (f : ℕ → A → A) → Local d (place d f) f
+place-local d f =
+    record {
+      long = λ i l. length-set l i (f i (getD l i d));
+      own = λ i l h. getD-set-same l i (f i (getD l i d)) d h;
+      other = λ i l j n. getD-set-other l i j (f i (getD l i d)) d n;
+    }
+
+-- a step that is taken at the marks of a set alone
+pub marked-local : {A : Type 0} (d : A) (step : ℕ → List A → List A) (g : ℕ → A → A) (m : ℕ) → Local d step g → Local d (λ i l. either (has m i) (step i l) l) (λ i x. either (has m i) (g i x) x)
+marked-local {A} d step g m o =
+    record {
+      long = λ i l. long (has m i) i l;
+      own = λ i l h. own (has m i) i l h;
+      other = λ i l j n. other (has m i) i l j n;
+    }
+  where
+    long : (b : Bool) (i : ℕ) (l : List A) → length (either b (step i l) l) ≡ length l
+    long true i l = o .long i l
+    long false i l = refl
+
+    own : (b : Bool) (i : ℕ) (l : List A) → i < length l → getD (either b (step i l) l) i d ≡ either b (g i (getD l i d)) (getD l i d)
+    own true i l h = o .own i l h
+    own false i l h = refl
+
+    other : (b : Bool) (i : ℕ) (l : List A) (j : ℕ) → (j ≡ i → ⊥) → getD (either b (step i l) l) j d ≡ getD l j d
+    other true i l j n = o .other i l j n
+    other false i l j n = refl
+
+module _ {A : Type 0} (d : A) (step : ℕ → List A → List A) (g : ℕ → A → A) (o : Local d step g) where
+  pub local-length : (l : List A) (n : ℕ) → length (upto n step l) ≡ length l
+  local-length l n = upto-keeps length step l n (o .long)
+
+  -- a place that the loop does not reach
+  pub local-later : (l : List A) (n j : ℕ) → n ≤ j → getD (upto n step l) j d ≡ getD l j d
+  unfolding upto
+  local-later l zero j h = refl
+  local-later l (suc n) j h = o .other n (upto n step l) j (λ e. omega arith) ∙ local-later l n j (omega arith)
+
+  -- a place behind the loop
+  pub local-get : (l : List A) (n j : ℕ) → n ≤ length l → j < n → getD (upto n step l) j d ≡ g j (getD l j d)
+  unfolding upto
+  local-get l zero j h b = absurd (omega arith)
+  local-get l (suc n) j h b = by (eqb j n) refl (λ k. local-get l n j (omega arith) k)
+    where
+      by : (t : Bool) → eqb j n ≡ t → (j < n → getD (upto n step l) j d ≡ g j (getD l j d)) → getD (step n (upto n step l)) j d ≡ g j (getD l j d)
+      by true e ih =
+          rw (eqb-true j n e) (o .own n (upto n step l) (omega (arith, local-length l n)) ∙ ap (g n) (local-later l n n (omega arith)))
+      by false e ih = o .other n (upto n step l) j (eqb-false j n e) ∙ ih (omega (arith, eqb-false j n e))
+
+-- two loops that do the same to each place make the same list
+pub local-same : {A : Type 0} (d : A) (a b : ℕ → List A → List A) (f g : ℕ → A → A) → Local d a f → Local d b g → (l : List A) (n : ℕ) → n ≤ length l → ((i : ℕ) → i < n → f i (getD l i d) ≡ g i (getD l i d)) → upto n a l ≡ upto n b l
+local-same d a b f g p q l n h e =
+    ext-getD d (upto n a l) (upto n b l) (local-length d a f p l n ∙ sym (local-length d b g q l n)) (λ i k. by i (ltb i n) refl)
+  where
+    by : (i : ℕ) (t : Bool) → ltb i n ≡ t → getD (upto n a l) i d ≡ getD (upto n b l) i d
+    by i true s = local-get d a f p l n i h (ltb-true i n s) ∙ e i (ltb-true i n s) ∙ sym (local-get d b g q l n i h (ltb-true i n s))
+    by i false s = local-later d a f p l n i (ltb-false i n s) ∙ sym (local-later d b g q l n i (ltb-false i n s))
+
+-- a loop that changes no place that is there
+pub local-fixed : {A : Type 0} (d : A) (a : ℕ → List A → List A) (f : ℕ → A → A) → Local d a f → (l : List A) (n : ℕ) → n ≤ length l → ((i : ℕ) → i < n → f i (getD l i d) ≡ getD l i d) → upto n a l ≡ l
+local-fixed d a f p l n h e = ext-getD d (upto n a l) l (local-length d a f p l n) (λ i k. by i (ltb i n) refl)
+  where
+    by : (i : ℕ) (t : Bool) → ltb i n ≡ t → getD (upto n a l) i d ≡ getD l i d
+    by i true s = local-get d a f p l n i h (ltb-true i n s) ∙ e i (ltb-true i n s)
+    by i false s = local-later d a f p l n i (ltb-false i n s)
+
+-- one loop behind another is the loop of both
+pub local-twice : {A : Type 0} (d : A) (a b c : ℕ → List A → List A) (f g h : ℕ → A → A) → Local d a f → Local d b g → Local d c h → (l : List A) (n : ℕ) → n ≤ length l → ((i : ℕ) → i < n → h i (getD l i d) ≡ g i (f i (getD l i d))) → upto n c l ≡ upto n b (upto n a l)
+local-twice {A} d a b c f g h p q r l n k e =
+    ext-getD d (upto n c l) (upto n b m) (local-length d c h r l n ∙ sym (local-length d b g q m n ∙ local-length d a f p l n)) (λ i w. by i (ltb i n) refl)
+  where
+    m : List A
+    m = upto n a l
+
+    by : (i : ℕ) (t : Bool) → ltb i n ≡ t → getD (upto n c l) i d ≡ getD (upto n b m) i d
+    by i true s =
+        local-get d c h r l n i k (ltb-true i n s)
+        ∙ e i (ltb-true i n s)
+        ∙ sym (local-get d b g q m n i (omega (arith, local-length d a f p l n)) (ltb-true i n s) ∙ ap (g i) (local-get d a f p l n i k (ltb-true i n s)))
+    by i false s =
+        local-later d c h r l n i (ltb-false i n s)
+        ∙ sym (local-later d b g q m n i (ltb-false i n s) ∙ local-later d a f p l n i (ltb-false i n s))
+
+-- THE LAW for the marks of a set: a place changes just if the set has its mark
+pub over-get : {A : Type 0} (d : A) (f : ℕ → A → A) (m : ℕ) (l : List A) (j : ℕ) → length l ≡ 64 → j < 64 → getD (overMarks m (place d f) l) j d ≡ either (has m j) (f j (getD l j d)) (getD l j d)
+unfolding overMarks
+over-get d f m l j h b = local-get d _ _ (marked-local d (place d f) f m (place-local d f)) l 64 j (omega arith) b
+
+pub over-length : {A : Type 0} (d : A) (f : ℕ → A → A) (m : ℕ) (l : List A) → length (overMarks m (place d f) l) ≡ length l
+unfolding overMarks
+over-length d f m l = local-length d _ _ (marked-local d (place d f) f m (place-local d f)) l 64
+
+-- THE LAW for a loop in place whose turn also reads another place of the list: where no place that is read changes, all is read as it was
+-- before the loop.
+module _ {A : Type 0} (d : A) (src : ℕ → ℕ) (f : ℕ → A → A → A) (m : ℕ) (apart : (i : ℕ) → has m i ≡ true → has m (src i) ≡ false) (l : List A) where
+  -- a turn with what is read now, and with what was read before
+  abbrev reading : ℕ → List A → List A
+  reading i t = set t i (f i (getD t (src i) d) (getD t i d))
+
+  abbrev before : ℕ → A → A
+  before i x = f i (getD l (src i) d) x
+
+  unmarked : (n j : ℕ) → has m j ≡ false → getD (upto n (λ i t. either (has m i) (place d before i t) t) l) j d ≡ getD l j d
+  unfolding upto
+  unmarked zero j h = refl
+  unmarked (suc n) j h = by (eqb j n) refl ∙ unmarked n j h
+    where
+      turns : List A
+      turns = upto n (λ i t. either (has m i) (place d before i t) t) l
+
+      by : (t : Bool) → eqb j n ≡ t → getD (either (has m n) (place d before n turns) turns) j d ≡ getD turns j d
+      by true e = rw (ap (λ (x : ℕ). has m x) (sym (eqb-true j n e)) ∙ h)
+      by false e = marked-local d (place d before) before m (place-local d before) .other n turns j (eqb-false j n e)
+
+  in-place : (n : ℕ) → upto n (λ i t. either (has m i) (reading i t) t) l ≡ upto n (λ i t. either (has m i) (place d before i t) t) l
+  unfolding upto
+  in-place zero = refl
+  in-place (suc n) = rw (in-place n) (by (has m n) refl)
+    where
+      turns : List A
+      turns = upto n (λ i t. either (has m i) (place d before i t) t) l
+
+      by : (t : Bool) → has m n ≡ t → either t (reading n turns) turns ≡ either t (place d before n turns) turns
+      by true e = ap (λ (x : A). set turns n (f n x (getD turns n d))) (unmarked n (src n) (apart n e))
+      by false e = refl
+
+  pub over-from : overMarks m reading l ≡ overMarks m (place d before) l
+  unfolding overMarks
+  over-from = in-place 64
+
+  -- and it is the loop over all places, where the others stay as they are
+  pub over-all : length l ≡ 64 → (g : ℕ → A → A) → ((i : ℕ) → i < 64 → has m i ≡ true → g i (getD l i d) ≡ before i (getD l i d)) → ((i : ℕ) → i < 64 → has m i ≡ false → g i (getD l i d) ≡ getD l i d) → overMarks m reading l ≡ upto 64 (place d g) l
+  unfolding overMarks
+  over-all h g on off =
+      in-place 64 ∙ local-same d _ _ _ _ (marked-local d (place d before) before m (place-local d before)) (place-local d g) l 64 (omega arith) (λ i k. by i k (has m i) refl)
+    where
+      by : (i : ℕ) → i < 64 → (t : Bool) → has m i ≡ t → either t (before i (getD l i d)) (getD l i d) ≡ g i (getD l i d)
+      by i k true e = sym (on i k e)
+      by i k false e = sym (off i k e)
