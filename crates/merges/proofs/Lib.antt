@@ -1,5 +1,6 @@
 pub mod Halves
 pub mod Bitmaps
+pub mod Slips
 pub mod Safety
 pub mod Growth
 pub mod Late
