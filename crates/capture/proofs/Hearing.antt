@@ -17,7 +17,7 @@ use Rattle.engines.specs.declared.node.StateSets.{StateSets}
 use Rattle.capture.specs.declared.plan.Coins.{Coins}
 use Rattle.capture.specs.declared.plan.Heard.{Heard}
 use Rattle.capture.specs.declared.plan.Reception.{Reception}
-use Rattle.capture.specs.declared.plan.Plan.{Plan}
+use Rattle.capture.specs.Plan.{Plan}
 
 both : (b : Bool) (g h : Heard) (k : ℕ) → g .examined ≡ k → h .examined ≡ k → either b g h .examined ≡ k
 both true g h k p q = p

@@ -39,10 +39,10 @@ use Rattle.engines.specs.declared.node.Node.{Node}
 use Rattle.engines.specs.declared.node.StateSets.{StateSets}
 use Rattle.engines.specs.declared.node.NodeState.{NodeState}
 use Rattle.engines.specs.declared.node.NodeState.the-variants.{Listen, Flood, Sleep}
-use Rattle.capture.specs.declared.plan.Plan.{Plan}
-use Rattle.capture.specs.declared.turns.News.{News}
+use Rattle.capture.specs.Plan.{Plan}
+use Rattle.capture.specs.Turns.{News}
 use Rattle.engines.specs.declared.metrics.MetricsCollector.{MetricsCollector}
-use Rattle.capture.specs.declared.ce.SlotMerges.{SlotMerges}
+use Rattle.capture.specs.Ce.{SlotMerges}
 use Rattle.engines.specs.declared.network.Network.{Network}
 use Rattle.engines.specs.declared.network.RoundConf.{RoundConf}
 use Rattle.engines.specs.Network.{ticking}

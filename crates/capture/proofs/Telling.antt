@@ -14,7 +14,7 @@ use Rattle.merges.specs.declared.votes.Voting.{Voting}
 use Rattle.merges.specs.declared.merging.Payload.{Payload}
 use Rattle.merges.specs.declared.merging.Merged.{Merged}
 use Rattle.capture.specs.Ce.{isNews, hearingOf, notedIf, toldAt}
-use Rattle.capture.specs.declared.ce.SlotMerges.{SlotMerges}
+use Rattle.capture.specs.Ce.{SlotMerges}
 
 -- The code reads the sender's payload at the remainder by 64, which is its place if it is a place at all.
 pub hearing-is : (s : Voting) (hears : List ℕ) (held : List Payload) (i : ℕ) (m : Merged)

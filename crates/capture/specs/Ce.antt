@@ -21,7 +21,6 @@ use Rattle.merges.specs.declared.merging.MergeResult.{MergeResult}
 use Rattle.merges.specs.declared.merging.MergeResult.the-variants.{Redundant, NewInfo}
 use Rattle.engines.specs.Clamp.{atMost64}
 use Rattle.engines.specs.Marked.{withMark, overMarks}
-use Rattle.capture.specs.declared.ce.SlotMerges.{SlotMerges}
 
 -- The length of a payload: that of its text, and nothing where there is no packet.
 abbrev pub lenBy : CeTwoPcPacket → Held → ℕ
@@ -49,6 +48,13 @@ hearingOf s hears held i =
     either (ltb (getD hears i 0) 64)
     (mergeOf (noOf s) (s .n) i (getD held i noPayload) (getD held (getD hears i 0) noPayload))
     (redundant (getD held i noPayload))
+
+-- What positions hold after a slot, and a mark for each whose merge was new to it, who then has reached its goal, and who can sleep by what it holds.
+pub record SlotMerges : Type 0 where
+  pub held : List Payload
+  pub «new_info» : ℕ
+  pub «goal_reached» : ℕ
+  pub «can_sleep» : ℕ
 
 abbrev pub notedIf : Bool → ℕ → ℕ → ℕ
 notedIf t i m = either t (withMark m i) m

@@ -4,3 +4,4 @@ pub mod Ce
 pub mod Capture
 pub mod PlanCases
 pub mod Idle
+pub mod Boards

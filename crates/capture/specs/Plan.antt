@@ -23,7 +23,6 @@ use Rattle.engines.specs.declared.node.StateSets.{StateSets}
 use Rattle.capture.specs.declared.plan.Coins.{Coins}
 use Rattle.capture.specs.declared.plan.Heard.{Heard}
 use Rattle.capture.specs.declared.plan.Reception.{Reception}
-use Rattle.capture.specs.declared.plan.Plan.{Plan}
 
 -- ---- coins
 
@@ -121,6 +120,15 @@ unfoldable pub capturesOf : List ℕ → Float → List ℕ → ℕ → ℕ → 
 capturesOf ws loss links targets flooding d = overMarks targets (captureAt ws loss links flooding) (noneYet d)
 
 -- ---- the plan
+
+-- A mark for each position that recovers; whom each position hears, 64 where nobody; the cursor, and the slot's counts.
+pub record Plan : Type 0 where
+  pub recovering : ℕ
+  pub hears : List ℕ
+  pub draw : Draw
+  pub «ce_timeouts» : ℕ
+  pub «rx_attempts» : ℕ
+  pub «rx_success» : ℕ
 
 abbrev pub planned : Coins → Captured → Plan
 planned c p =

@@ -1,15 +1,15 @@
 -- Columns of a table, told by their numbers. Assumes nothing.
-use Prim.Native.Nat.{ℕ, _+_, _≤_, _<_}
+use Prim.Native.Nat.{ℕ, zero, suc, _+_, _*_, _≤_, _<_}
 use mathlib.Core.Bool.{Bool}
-use mathlib.Core.List.{List}
+use mathlib.Core.List.{List, [], _∷_}
 use mathlib.Core.Path.{_≡_, refl, sym, ap, _∙_}
 use lib.ListN.{length, set, getD, take, drop, length-set, length-drop}
-use lib.Seq.{getD-set-other, getD-take, getD-drop, take-set-lt, drop-set-add, length-take-le}
+use lib.Seq.{getD-set-same, getD-set-other, getD-take, getD-drop, take-set-lt, drop-set-add, length-take-le}
 use native.Mathlib.Omega.{arith}
 use Rattle.loops.specs.Pick.{either}
 use Rattle.marks.specs.Marks.{has}
 use Rattle.engines.specs.Marked.{overMarks, place}
-use Rattle.engines.specs.Columns.{cell, cellBy}
+use Rattle.engines.specs.Columns.{cell, cellBy, rowPut}
 use Rattle.engines.proofs.Marking.{over-through, over-keeps}
 use Rattle.engines.proofs.Places.{over-get}
 
@@ -45,3 +45,30 @@ module _ (k : ℕ) (f : ℕ → ℕ) (m : ℕ) (x : List ℕ) where
 
   pub cells-length : length (overMarks m (cellBy k f) x) ≡ length x
   cells-length = over-keeps length (cellBy k f) (λ j b s. length-set s (k + j) (f (getD s (k + j) 0))) m x
+
+-- ---- numbers of one position, in columns that stand one behind the other
+
+pub row-length : (k i : ℕ) (vs x : List ℕ) → length (rowPut k i vs x) ≡ length x
+unfolding rowPut
+row-length k i [] x = refl
+row-length k i (v ∷ vs) x = row-length (k + 64) i vs (set x (k + i) v) ∙ length-set x (k + i) v
+
+-- numbers that are at none of these places stay
+pub row-other : (k i : ℕ) (vs x : List ℕ) (p j : ℕ) → ((m : ℕ) → m < length vs → p + j ≡ k + 64 * m + i → ⊥) → cell (rowPut k i vs x) p j ≡ cell x p j
+unfolding rowPut cell
+row-other k i [] x p j apart = refl
+row-other k i (v ∷ vs) x p j apart =
+    row-other (k + 64) i vs (set x (k + i) v) p j (λ m h e. apart (suc m) (omega arith) (omega arith))
+    ∙ getD-set-other x (k + i) (p + j) v 0 (λ e. apart 0 (omega arith) (omega arith))
+
+-- number m of those that were put
+pub row-own : (k i : ℕ) (vs x : List ℕ) (m : ℕ) → i < 64 → m < length vs → k + 64 * length vs ≤ length x → cell (rowPut k i vs x) (k + 64 * m) i ≡ getD vs m 0
+unfolding rowPut cell
+row-own k i [] x m b h long = absurd (omega arith)
+row-own k i (v ∷ vs) x zero b h long =
+    row-other (k + 64) i vs (set x (k + i) v) (k + 64 * 0) i (λ m l e. omega arith)
+    ∙ ap (λ (q : ℕ). getD (set x (k + i) v) q 0) (let z : k + 64 * 0 + i ≡ k + i = omega arith in z)
+    ∙ getD-set-same x (k + i) v 0 (omega arith)
+row-own k i (v ∷ vs) x (suc m) b h long =
+    ap (λ (q : ℕ). getD (rowPut (k + 64) i vs (set x (k + i) v)) (q + i) 0) (let z : k + 64 * suc m ≡ k + 64 + 64 * m = omega arith in z)
+    ∙ row-own (k + 64) i vs (set x (k + i) v) m b (omega arith) (omega (arith, length-set x (k + i) v))

@@ -160,3 +160,38 @@ module _ {A : Type 0} (d : A) (src : ℕ → ℕ) (f : ℕ → A → A → A) (m
       by : (i : ℕ) → i < 64 → (t : Bool) → has m i ≡ t → either t (before i (getD l i d)) (getD l i d) ≡ g i (getD l i d)
       by i k true e = sym (on i k e)
       by i k false e = sym (off i k e)
+
+-- ---- a list that is put together place by place, from one that is as long
+
+module _ {A : Type 0} (d : A) (base : List A) (n : ℕ) (h : n ≤ length base) where
+  abbrev pub viewed : (ℕ → A → A) → List A
+  viewed f = upto n (place d f) base
+
+  pub view-length : (f : ℕ → A → A) → length (viewed f) ≡ length base
+  view-length f = local-length d _ _ (place-local d f) base n
+
+  pub view-get : (f : ℕ → A → A) (i : ℕ) → i < n → getD (viewed f) i d ≡ f i (getD base i d)
+  view-get f i b = local-get d _ _ (place-local d f) base n i h b
+
+  pub view-later : (f : ℕ → A → A) (i : ℕ) → n ≤ i → getD (viewed f) i d ≡ getD base i d
+  view-later f i b = local-later d _ _ (place-local d f) base n i b
+
+  pub view-same : (f g : ℕ → A → A) → ((i : ℕ) → i < n → f i (getD base i d) ≡ g i (getD base i d)) → viewed f ≡ viewed g
+  view-same f g e = local-same d _ _ _ _ (place-local d f) (place-local d g) base n h e
+
+  -- a loop over what was put together is one that puts together
+  pub view-step : (f g k : ℕ → A → A) → ((i : ℕ) → i < n → k i (getD base i d) ≡ g i (f i (getD base i d))) → viewed k ≡ upto n (place d g) (viewed f)
+  view-step f g k e = local-twice d _ _ _ _ _ _ (place-local d f) (place-local d g) (place-local d k) base n h e
+
+  -- one place is another
+  pub view-put : (f g : ℕ → A → A) (i : ℕ) (p : A) → i < n → ((j : ℕ) → j < n → (j ≡ i → ⊥) → g j (getD base j d) ≡ f j (getD base j d)) → g i (getD base i d) ≡ p → viewed g ≡ set (viewed f) i p
+  view-put f g i p b same own =
+      ext-getD d (viewed g) (set (viewed f) i p) (view-length g ∙ sym (length-set (viewed f) i p ∙ view-length f)) (λ j l. at j (eqb j i) refl (ltb j n) refl)
+    where
+      at : (j : ℕ) (s : Bool) → eqb j i ≡ s → (t : Bool) → ltb j n ≡ t → getD (viewed g) j d ≡ getD (set (viewed f) i p) j d
+      at j true q t r =
+          rw (eqb-true j i q) (view-get g i b ∙ own ∙ sym (getD-set-same (viewed f) i p d (omega (arith, view-length f))))
+      at j false q true r =
+          view-get g j (ltb-true j n r) ∙ same j (ltb-true j n r) (eqb-false j i q) ∙ sym (getD-set-other (viewed f) i j p d (eqb-false j i q) ∙ view-get f j (ltb-true j n r))
+      at j false q false r =
+          view-later g j (ltb-false j n r) ∙ sym (getD-set-other (viewed f) i j p d (eqb-false j i q) ∙ view-later f j (ltb-false j n r))

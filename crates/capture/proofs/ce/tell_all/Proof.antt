@@ -5,7 +5,7 @@ use native.Mathlib.Omega.{arith}
 use borrow.Author.Needs.{needs}
 use Rattle.loops.specs.Upto.{upto, upto-none, upto-turn, upto-all}
 use Rattle.capture.specs.Ce.{notedIf, toldAt, toldAll}
-use Rattle.capture.specs.declared.ce.SlotMerges.{SlotMerges}
+use Rattle.capture.specs.Ce.{SlotMerges}
 use Rattle.engines.specs.Clamp.{atMost64}
 use Rattle.capture.proofs.Telling.{hearing-is, told-is}
 use Rattle.capture.proofs.ce.tell_all.Statement.{statement}
