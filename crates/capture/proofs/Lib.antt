@@ -1,7 +1,6 @@
 pub mod Hearing
 pub mod Shortage
 pub mod Neighbours
-pub mod Telling
 pub mod Settling
 pub mod Idling
 pub mod PlanCursor

@@ -151,7 +151,7 @@ pub record ShownHeld (n : ℕ) (base : List Payload) (p : Phases) (rests : ℕ) 
   pub kinds : (i : ℕ) → i < atMost64 n → holdsBy p i ≡ false → getD base i noPayload .held ≡ heldBy p i
   pub from : (i : ℕ) → i < atMost64 n → holdsBy p i ≡ true → cell x fromAt i < atMost64 n
   pub texts : (k : ℕ) → k < atMost64 n → cell x dataAt k ≡ dataLen (dataIn base k)
-  pub rests : (i : ℕ) → i < atMost64 n → has rests i ≡ canSleepOf n (getD held i noPayload)
+  pub resting : (i : ℕ) → i < atMost64 n → has rests i ≡ canSleepOf n (getD held i noPayload)
   pub sees : payloadsBy n base p x ≡ held
 
 -- ---- the round
@@ -185,7 +185,7 @@ abbrev pub fixedOf : RoundConf → CeFixed
 fixedOf conf = record { voting = votingOf conf; «loss_rate» = conf .settings .«loss_rate»; «listen_timeout» = conf .settings .«listen_timeout»; interval = conf .interval }
 
 pub record Goes (conf : RoundConf) (links : List ℕ) (f : CeFixed) : Type 0 where
-  pub links : conf .graph .adj ≡ links
+  pub adj : conf .graph .adj ≡ links
   pub fixed : fixedOf conf ≡ f
 
 -- ---- a round begins
@@ -205,16 +205,16 @@ rowFor slot i v l =
     ∷ []
 
 -- position i holds a packet of this phase now, and nothing else has changed
-pub record PutPhase (p : Phases) (i : ℕ) (phase : TwoPcPhase) (r : Phases) : Type 0 where
+pub record PutPhase (p : Phases) (i : ℕ) (f : TwoPcPhase) (r : Phases) : Type 0 where
   pub holds : (j : ℕ) → holdsBy r j ≡ either (eqb j i) true (holdsBy p j)
-  pub phase : (j : ℕ) → phaseBy r j ≡ either (eqb j i) phase (phaseBy p j)
+  pub phase : (j : ℕ) → phaseBy r j ≡ either (eqb j i) f (phaseBy p j)
   pub unreadable : r .unreadable ≡ p .unreadable
 
 -- position i, which had no mark, is entered
-pub record NotedAt (p : Phases) (i : ℕ) (held : Held) (phase : TwoPcPhase) (r : Phases) : Type 0 where
+pub record NotedAt (p : Phases) (i : ℕ) (held : Held) (f : TwoPcPhase) (r : Phases) : Type 0 where
   pub others : (j : ℕ) → (j ≡ i → ⊥) → (heldBy r j ≡ heldBy p j) × (phaseBy r j ≡ phaseBy p j)
   pub own : heldBy p i ≡ Empty → heldBy r i ≡ held
-  pub phase : held ≡ Packet → phaseBy r i ≡ phase
+  pub phase : held ≡ Packet → phaseBy r i ≡ f
 
 -- the first i positions are in table and sets
 pub record Taken (n i : ℕ) (base : CeState) (s : Noted) (x : List ℕ) : Type 0 where
@@ -351,7 +351,7 @@ pub record TurnedBy (b : Board) (interval : ℕ) (p : SlotPlan) (sent : ℕ) (t 
   pub metrics : (hears : List ℕ) → r .metrics ≡ countedSlot (planBy p hears) (b .metrics)
   pub slot : r .slot ≡ inc (b .slot)
   pub row : r .«next_row» ≡ nextRow (b .«next_row») interval (b .slot)
-  pub sent : r .«bytes_sent» ≡ add64 (b .«bytes_sent») sent
+  pub bytes : r .«bytes_sent» ≡ add64 (b .«bytes_sent») sent
   pub draw : r .draw ≡ p .draw
   pub going : r .ended ≡ false
 

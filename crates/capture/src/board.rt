@@ -256,21 +256,23 @@ fn take_all(n: usize, c: CeState, table: &mut [u64; 576]) -> Noted
     ensures { λ r. ⌜ (length (now (table .entry)) ≡ 576 → Taken n (atMost64 n) c r (now (table .exit))) ⌝ }
 {
     let count = clamp::at_most_64(n);
+    let w = c.network;
+    let phases = Phases {
+        prepared: 0,
+        committed: 0,
+        aborted: 0,
+        unreadable: 0,
+    };
     let mut s = Noted {
         goal_reached: 0,
-        phases: Phases {
-            prepared: 0,
-            committed: 0,
-            aborted: 0,
-            unreadable: 0,
-        },
+        phases,
         can_sleep: 0,
     };
     let mut i: usize = 0;
     while i < count {
-        let v = c.network.nodes[i];
+        let v = w.nodes[i];
         let l = c.held[i];
-        take_position(table, i, c.network.slot, v, l);
+        take_position(table, i, w.slot, v, l);
         s = note(n, s, i, v, l);
         i += 1;
     }
@@ -297,7 +299,8 @@ pub(crate) fn unpack(n: usize, c: CeState, initiator: usize, cursor: usize, tabl
     let s = take_all(n, c, table);
     let phases = s.phases;
     let states = first_states(n, initiator);
-    let metrics = c.network.metrics;
+    let w = c.network;
+    let metrics = w.metrics;
     let draw = Draw {
         at: cursor,
         short: false,
@@ -308,9 +311,9 @@ pub(crate) fn unpack(n: usize, c: CeState, initiator: usize, cursor: usize, tabl
         phases,
         can_sleep: s.can_sleep,
         metrics,
-        slot: c.network.slot,
-        next_row: c.network.next_row,
-        bytes_sent: c.network.bytes_sent,
+        slot: w.slot,
+        next_row: w.next_row,
+        bytes_sent: w.bytes_sent,
         draw,
         ended: false,
     }
@@ -393,7 +396,8 @@ fn pack_held(held: [Payload; 64], n: usize, p: Phases, table: &[u64; 576]) -> [P
 pub(crate) fn pack(n: usize, c: CeState, b: Board, table: &[u64; 576]) -> CeState
     ensures { λ r. ⌜ r ≡ seenBy n c b (now (table .entry)) ⌝ }
 {
-    let before = c.network.nodes;
+    let w = c.network;
+    let before = w.nodes;
     let states = b.states;
     let nodes = pack_nodes(before, n, states, b.goal_reached, table);
     let old = c.held;

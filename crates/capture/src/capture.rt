@@ -242,7 +242,8 @@ fn write_rows(words: &[u64], part: &mut [u64], conf: RoundConf, c: CeState, init
     let g = conf.graph;
     let links = g.adj;
     let f = fixed_of(conf);
-    let nodes = c.network.nodes;
+    let w = c.network;
+    let nodes = w.nodes;
     let top = rows::highest_progress(nodes, g.n);
     let mut table = [0u64; 576];
     let b = board::unpack(g.n, c, initiator, cursor, &mut table);

@@ -1,25 +1,47 @@
-use mathlib.Core.Bool.{Bool}
-use mathlib.Core.Path.{_≡_, ap, _∙_}
-use Prim.Native.Nat.{_≤_, _-_}
-use native.Mathlib.Omega.{arith}
-use borrow.Author.Needs.{needs}
-use Rattle.loops.specs.Upto.{upto, upto-none, upto-turn, upto-all}
-use Rattle.capture.specs.Ce.{notedIf, toldAt, toldAll}
-use Rattle.capture.specs.Ce.{SlotMerges}
-use Rattle.engines.specs.Clamp.{atMost64}
-use Rattle.capture.proofs.Telling.{hearing-is, told-is}
 use Rattle.capture.proofs.ce.tell_all.Statement.{statement}
 use Rattle.capture.proofs.ce.tell_all.Tie as tie
 
 abbrev Inv-loop : tie.InvT-loop
-Inv-loop voting held hears count after₀ new-info₀ goal-reached₀ can-sleep₀ i₀ after new-info goal-reached can-sleep i = (count ≡ atMost64 (voting .n)) × (i ≤ count) × (record { held = after; «new_info» = new-info; «goal_reached» = goal-reached; «can_sleep» = can-sleep } ≡ upto i (toldAt voting hears held) (record { held = held; «new_info» = 0; «goal_reached» = 0; «can_sleep» = 0 }))
+Inv-loop voting targets hears table₀ t₀ left₀ table t left = ?
 
 abbrev μ-loop : tie.MeasureT-loop
-μ-loop voting held hears count after₀ new-info₀ goal-reached₀ can-sleep₀ i₀ after new-info goal-reached can-sleep i = count - i
+μ-loop voting targets hears table₀ t₀ left₀ table t left = ?
 
+-- src/ce.rt:131:5
+loop-holds : tie.Need-loop-holds Inv-loop μ-loop
+loop-holds c = ?
+
+-- src/ce.rt:132:13
+lowest-mark-requires : tie.Need-lowest-mark-requires Inv-loop μ-loop
+lowest-mark-requires c κs = ?
+
+-- src/ce.rt:133:32
+mul-tell : tie.Need-mul-tell Inv-loop μ-loop
+mul-tell c = ?
+
+-- src/ce.rt:133:32
+element-copy-out-tell : tie.Need-element-copy-out-tell Inv-loop μ-loop
+element-copy-out-tell c = ?
+
+-- src/ce.rt:133:9
+tell-requires : tie.Need-tell-requires Inv-loop μ-loop
+tell-requires c κs = ?
+
+-- src/ce.rt:134:9
+without-mark-requires : tie.Need-without-mark-requires Inv-loop μ-loop
+without-mark-requires c κs = ?
+
+-- src/ce.rt:131:5
+loop-less : tie.Need-loop-less Inv-loop μ-loop
+loop-less c = ?
+
+-- src/ce.rt:131:5
+loop-again : tie.Need-loop-again Inv-loop μ-loop
+loop-again c = ?
+
+-- src/ce.rt:126:1
 returns : tie.Need-returns Inv-loop μ-loop
-unfolding toldAll
-returns c = upto-all _ _ (omega arith) (omega arith) (c .before .loop .inv .2)
+returns c = ?
 
 pub tell-all-spec : {M : Type 1} → statement M
 tell-all-spec =
@@ -27,35 +49,12 @@ tell-all-spec =
     (tie.spec
     Inv-loop
     μ-loop
-    (λ c κs. search needs)
-    (λ c. (c .at-most-64 .ensures, omega arith, upto-none _ _))
-    (λ c. search needs)
-    (λ c. search needs)
-    (λ c. search needs)
-    (λ c. search needs)
-    (λ c. search needs)
-    (λ c. search needs)
-    (λ c κs. search needs)
-    (λ c. search needs)
-    (λ c. search needs)
-    (λ c κs. search needs)
-    (λ c κs. search needs)
-    (λ c κs. search needs)
-    (λ c κs. search needs)
-    (λ c κs. search needs)
-    (λ c κs. search needs)
-    (λ c. search needs)
-    (λ c. search needs)
-    (λ c. let l = c .before .before .before .before .before .before .before .before .before .before .before in
-    let s = c .before .before .before .before .before .before .before .before .before .before .before .before .before in
-    let t : SlotMerges = record { held = l .loop .after; «new_info» = l .loop .new-info; «goal_reached» = l .loop .goal-reached; «can_sleep» = l .loop .can-sleep } in (
-      l .loop .inv .0,
-      omega arith,
-      upto-turn _ _ (l .loop .inv .2)
-          (told-is (s .args .voting) (s .args .t3) (s .args .t2) (l .loop .i) t (c .before .before .before .before .before .before .before .hear .result) _ _ _
-          (hearing-is (s .args .voting) (s .args .t3) (s .args .t2) (l .loop .i) (c .before .before .before .before .before .before .before .hear .result) (c .before .before .before .before .before .before .before .hear .ensures))
-          (c .before .before .before .before .note .ensures ∙ ap (λ (x : Bool). notedIf x (c .before .before .before .before .before .before .before .before .before .before .before .loop .i) (c .before .before .before .before .before .before .before .before .before .before .before .loop .new-info)) (c .before .before .before .before .before .is-news .ensures))
-          (c .before .before .note2 .ensures ∙ ap (λ (x : Bool). notedIf x (c .before .before .before .before .before .before .before .before .before .before .before .loop .i) (c .before .before .before .before .before .before .before .before .before .before .before .loop .goal-reached)) (c .before .before .before .node-goal-reached .ensures))
-          (c .note3 .ensures ∙ ap (λ (x : Bool). notedIf x (c .before .before .before .before .before .before .before .before .before .before .before .loop .i) (c .before .before .before .before .before .before .before .before .before .before .before .loop .can-sleep)) (c .before .node-can-sleep .ensures))),
-    ))
+    loop-holds
+    lowest-mark-requires
+    mul-tell
+    element-copy-out-tell
+    tell-requires
+    without-mark-requires
+    loop-less
+    loop-again
     returns)

@@ -1,55 +1,53 @@
-use mathlib.Core.Path.{sym, ap, _∙_}
-use native.Mathlib.Omega.{arith}
-use lib.ListN.{length-map}
 use borrow.Author.Needs.{needs}
-use Rattle.engines.specs.Stretch.{Small}
-use Rattle.engines.specs.declared.node.StateSets.{StateSets}
 use Rattle.capture.proofs.idle.idle_slots.Statement.{statement}
 use Rattle.capture.proofs.idle.idle_slots.Tie as tie
 
--- What the type of a state says of it, read at the entry: further on `search` meets too many records to reach it. The path at `nodes` leads to the length of
--- the array of positions, which the logic holds as a map of them.
-small : (s : tie.Start) → Small (s .args .c .network)
-small s =
-    record {
-      nodes = sym (length-map (s .args .c .network .nodes) _) ∙ s .good .1 .0 .1 .1 .0 .1 .1 .0 .1 .0 .1;
-      sent = search needs;
-      timeouts = search needs;
-      attempts = search needs;
-      success = search needs;
-    }
+-- src/idle.rt:72:9
+returns : tie.Need-returns
+returns c = ?
 
+-- src/idle.rt:75:9
+returns-2 : tie.Need-returns-2
+returns-2 c = ?
+
+-- src/idle.rt:78:9
+returns-3 : tie.Need-returns-3
+returns-3 c = ?
+
+-- src/idle.rt:81:8
+goal-reached-requires : tie.Need-goal-reached-requires
+goal-reached-requires c κs = search needs
+
+-- src/idle.rt:82:9
 returns-4 : tie.Need-returns-4
-returns-4 c =
-    let waited = c .before .before .before .before .before in
-    let sets = waited .before .before .before .before .before in
-    let start = sets .before .before .before .before .before in
-    let wait = waited .shortest-wait .ensures in
-    let most = waited .before .smaller .ensures in (
-      omega (arith, wait .0, most),
-      λ p. record {
-        small = small start;
-        going = start .pre;
-        rows = omega (arith, wait .0, most, sets .before .before .if1 .left);
-        goal = sym (c .before .before .before .network-goal-reached .ensures) ∙ c .before .before .if3 .left;
-        silent = ap (λ (s : StateSets). s .flooding) (sym (sets .state-sets .ensures)) ∙ waited .before .before .before .if2 .left;
-        waits = wait .1 p;
-        awake = c .before .nobody-can-sleep .ensures (c .if4 .taken);
-      },
-    )
+returns-4 c = ?
+
+-- src/idle.rt:84:37
+sub-smaller : tie.Need-sub-smaller
+sub-smaller c = search needs
+
+-- src/idle.rt:84:9
+smaller-requires : tie.Need-smaller-requires
+smaller-requires c κs = search needs
+
+-- src/idle.rt:85:5
+shortest-wait-requires : tie.Need-shortest-wait-requires
+shortest-wait-requires c κs = search needs
+
+-- src/idle.rt:67:1
+returns-5 : tie.Need-returns-5
+returns-5 c = ?
 
 pub idle-slots-spec : {M : Type 1} → statement M
 idle-slots-spec =
     tie.close
     (tie.spec
-    (λ c. (search needs, λ p. absurd (omega arith)))
-    (λ c κs. search needs)
-    (λ c. (search needs, λ p. absurd (omega arith)))
-    (λ c. search needs)
-    (λ c κs. search needs)
-    (λ c κs. search needs)
-    (λ c κs. search needs)
-    (λ c. (search needs, λ p. absurd (omega arith)))
-    (λ c κs. search needs)
+    returns
+    returns-2
+    returns-3
+    goal-reached-requires
     returns-4
-    (λ c. (search needs, λ p. absurd (omega arith))))
+    sub-smaller
+    smaller-requires
+    shortest-wait-requires
+    returns-5)

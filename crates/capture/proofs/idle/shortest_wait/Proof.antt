@@ -1,28 +1,51 @@
-use Prim.Native.Nat.{ℕ, _≤_, _<_, _-_}
-use native.Mathlib.Omega.{arith}
-use lib.ListN.{getD}
-use borrow.Author.Count.{below-more}
-use borrow.Author.Needs.{needs}
-use Rattle.engines.specs.Nodes.{noNode}
-use Rattle.capture.specs.Idle.{Waits}
-use Rattle.capture.proofs.Idling.{waits-less}
 use Rattle.capture.proofs.idle.shortest_wait.Statement.{statement}
 use Rattle.capture.proofs.idle.shortest_wait.Tie as tie
 
 abbrev Inv-loop : tie.InvT-loop
-Inv-loop n slot timeout most at count wait₀ i₀ wait i = (i ≤ count) × (wait ≤ most) × (0 < wait → (j : ℕ) → j < i → Waits slot timeout wait (getD at j noNode))
+Inv-loop listening table slot timeout most wait₀ left₀ wait left = ?
 
 abbrev μ-loop : tie.MeasureT-loop
-μ-loop n slot timeout most at count wait₀ i₀ wait i = count - i
+μ-loop listening table slot timeout most wait₀ left₀ wait left = ?
 
+-- src/idle.rt:42:5
+loop-holds : tie.Need-loop-holds Inv-loop μ-loop
+loop-holds c = ?
+
+-- src/idle.rt:43:13
+lowest-mark-requires : tie.Need-lowest-mark-requires Inv-loop μ-loop
+lowest-mark-requires c κs = ?
+
+-- src/idle.rt:44:32
+add-until-due : tie.Need-add-until-due Inv-loop μ-loop
+add-until-due c = ?
+
+-- src/idle.rt:44:26
+mul-until-due : tie.Need-mul-until-due Inv-loop μ-loop
+mul-until-due c = ?
+
+-- src/idle.rt:44:26
+element-copy-out-until-due : tie.Need-element-copy-out-until-due Inv-loop μ-loop
+element-copy-out-until-due c = ?
+
+-- src/idle.rt:44:9
+until-due-requires : tie.Need-until-due-requires Inv-loop μ-loop
+until-due-requires c κs = ?
+
+-- src/idle.rt:45:9
+without-mark-requires : tie.Need-without-mark-requires Inv-loop μ-loop
+without-mark-requires c κs = ?
+
+-- src/idle.rt:42:5
+loop-less : tie.Need-loop-less Inv-loop μ-loop
+loop-less c = ?
+
+-- src/idle.rt:42:5
 loop-again : tie.Need-loop-again Inv-loop μ-loop
-loop-again c =
-    let inv = c .before .before .before .loop .inv in
-    let less = c .waits-for .ensures .0 in
-    (search needs, omega (arith, inv .1, less), λ p. below-more _ _ (λ j h. waits-less less (inv .2 (omega arith) j h)) (c .waits-for .ensures .1 p))
+loop-again c = ?
 
+-- src/idle.rt:37:1
 returns : tie.Need-returns Inv-loop μ-loop
-returns c = (c .before .loop .inv .1, λ p i h. c .before .loop .inv .2 p i (omega (arith, h, c .loop-test .left, c .before .before .at-most-64 .ensures)))
+returns c = ?
 
 pub shortest-wait-spec : {M : Type 1} → statement M
 shortest-wait-spec =
@@ -30,12 +53,13 @@ shortest-wait-spec =
     (tie.spec
     Inv-loop
     μ-loop
-    (λ c κs. search needs)
-    (λ c. (search needs, search needs, λ p j h. absurd (omega arith)))
-    (λ c. search needs)
-    (λ c. search needs)
-    (λ c κs. search needs)
-    (λ c. search needs)
-    (λ c. search needs)
+    loop-holds
+    lowest-mark-requires
+    add-until-due
+    mul-until-due
+    element-copy-out-until-due
+    until-due-requires
+    without-mark-requires
+    loop-less
     loop-again
     returns)
