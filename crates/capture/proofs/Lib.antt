@@ -1,3 +1,5 @@
+pub mod Viewing
+pub mod Turning
 pub mod Hearing
 pub mod Shortage
 pub mod Neighbours
