@@ -1,5 +1,6 @@
 pub mod Viewing
 pub mod Turning
+pub mod Holding
 pub mod Hearing
 pub mod Shortage
 pub mod Neighbours

@@ -1,5 +1,5 @@
 -- A round inside: sets of positions and a table of numbers, and the state of the rules that they show. No rule of 01 is said here. Assumes nothing.
-use Prim.Native.Nat.{ℕ, _+_, _*_, _%_, _^_, _<_}
+use Prim.Native.Nat.{ℕ, _+_, _*_, _%_, _^_, _≤_, _<_}
 use mathlib.Core.Bool.{Bool, true, false, not, _||_, _&&_}
 use mathlib.Core.List.{List, [], _∷_}
 use mathlib.Core.Path.{_≡_}
@@ -151,6 +151,7 @@ pub record ShownHeld (n : ℕ) (base : List Payload) (p : Phases) (rests : ℕ) 
   pub kinds : (i : ℕ) → i < atMost64 n → holdsBy p i ≡ false → getD base i noPayload .held ≡ heldBy p i
   pub from : (i : ℕ) → i < atMost64 n → holdsBy p i ≡ true → cell x fromAt i < atMost64 n
   pub texts : (k : ℕ) → k < atMost64 n → cell x dataAt k ≡ dataLen (dataIn base k)
+  pub short : (k : ℕ) → k < atMost64 n → dataLen (dataIn base k) ≤ 129
   pub resting : (i : ℕ) → i < atMost64 n → has rests i ≡ canSleepOf n (getD held i noPayload)
   pub sees : payloadsBy n base p x ≡ held
 
