@@ -90,7 +90,7 @@ module _ {n : ℕ} {base : List Payload} {p : Phases} {rests : ℕ} {x : List �
 
   source-at : (i : ℕ) → i < atMost64 n → holdsBy p i ≡ true → cell x dataAt (cell x fromAt i % 64) ≡ dataLen (dataIn base (cell x fromAt i))
   source-at i h q =
-      let f = o .from i h q in
+      let f = o .from i h in
       let e : cell x fromAt i % 64 ≡ cell x fromAt i = mod-eq-of-lt (omega arith) in
       rw e (o .texts (cell x fromAt i) f)
 
@@ -103,11 +103,11 @@ module _ {n : ℕ} {base : List Payload} {p : Phases} {rests : ℕ} {x : List �
           ≡ lenBy (getD held i noPayload .packet) (getD held i noPayload .held)
       by true q =
           ap (λ (k : ℕ). partsLen (cell x termAt i) (phaseBy p i) k (record { len = cell x lenAt i; marks = cell x marksAt i })) (source-at i h q)
-          ∙ told q ∙ ap (λ (v : Payload). lenBy (v .packet) (v .held)) (sym (packet-at i h q))
+          ∙ told ∙ ap (λ (v : Payload). lenBy (v .packet) (v .held)) (sym (packet-at i h q))
         where
-          told : holdsBy p i ≡ true → partsLen (cell x termAt i) (phaseBy p i) (dataLen (dataIn base (cell x fromAt i))) (record { len = cell x lenAt i; marks = cell x marksAt i })
+          told : partsLen (cell x termAt i) (phaseBy p i) (dataLen (dataIn base (cell x fromAt i))) (record { len = cell x lenAt i; marks = cell x marksAt i })
               ≡ textLen (ceWithin (packetOf (dataIn base) (slipBy p x i))) (ceText (packetOf (dataIn base) (slipBy p x i)))
-          told q = sym (parts-is (packetOf (dataIn base) (slipBy p x i)) (o .short (cell x fromAt i) (o .from i h q)))
+          told = sym (parts-is (packetOf (dataIn base) (slipBy p x i)) (o .short (cell x fromAt i) (o .from i h)))
       by false q = sym (no-text (getD held i noPayload .held) (getD held i noPayload .packet) (none-at i h q))
 
   -- what all flooders send
@@ -213,7 +213,7 @@ module _ {n : ℕ} {base : List Payload} {p : Phases} {rests : ℕ} {x : List �
           whole = o .whole;
           table = long;
           kinds = o .kinds;
-          from = λ i h q. rw (cell-kept fromAt i (omega arith)) (o .from i h q);
+          from = λ i h. rw (cell-kept fromAt i (omega arith)) (o .from i h);
           texts = λ k h. cell-kept dataAt k (omega arith) ∙ o .texts k h;
           short = o .short;
           resting = o .resting;
@@ -281,7 +281,7 @@ module _ {n : ℕ} {base : List Payload} {p : Phases} {rests : ℕ} {x : List �
           whole = o .whole;
           table = ap length (w .table) ∙ row-length 256 i row x ∙ o .table;
           kinds = λ j b q. let z = before (eqb j i) (holdsBy p j) (sym (holds-after j) ∙ q) in o .kinds j b z ∙ same-kind j q z;
-          from = λ j b q. from-at j b q (eqb j i) refl;
+          from = λ j b. from-at j b (eqb j i) refl;
           texts = λ k b. other-cell 512 k (λ m l e. omega (arith, h)) ∙ o .texts k b;
           short = o .short;
           resting = λ j b. rests-at j b (eqb j i) refl;
@@ -289,11 +289,9 @@ module _ {n : ℕ} {base : List Payload} {p : Phases} {rests : ℕ} {x : List �
               (λ j b q. rw (holds-after j, ne-eqb j i q, slip-other j (omega arith) q)) (rw (holds-after i, eq-eqb i i refl, slip-own)) ∙ ap (λ (l : List Payload). set l i new) (o .sees);
         }
       where
-        from-at : (j : ℕ) → j < atMost64 n → holdsBy (r .phases) j ≡ true → (b : Bool) → eqb j i ≡ b → cell y fromAt j < atMost64 n
-        from-at j b q true e = rw (eqb-true j i e, own-cell 3 (omega arith)) own
-        from-at j b q false e =
-            let z : holdsBy p j ≡ true = sym (ap (λ (t : Bool). either t true (holdsBy p j)) e) ∙ sym (holds-after j) ∙ q in
-            rw (still 7 j (omega arith) (eqb-false j i e)) (o .from j b z)
+        from-at : (j : ℕ) → j < atMost64 n → (b : Bool) → eqb j i ≡ b → cell y fromAt j < atMost64 n
+        from-at j b true e = rw (eqb-true j i e, own-cell 3 (omega arith)) own
+        from-at j b false e = rw (still 7 j (omega arith) (eqb-false j i e)) (o .from j b)
 
         rests-at : (j : ℕ) → j < atMost64 n → (b : Bool) → eqb j i ≡ b → has (r .«can_sleep») j ≡ canSleepOf n (getD (set held i new) j noPayload)
         rests-at j b true e =

@@ -1,6 +1,7 @@
 pub mod Viewing
 pub mod Turning
 pub mod Holding
+pub mod Telling
 pub mod Hearing
 pub mod Shortage
 pub mod Neighbours

@@ -149,7 +149,7 @@ pub record ShownHeld (n : ℕ) (base : List Payload) (p : Phases) (rests : ℕ) 
   pub whole : length base ≡ 64
   pub table : length x ≡ tableCells
   pub kinds : (i : ℕ) → i < atMost64 n → holdsBy p i ≡ false → getD base i noPayload .held ≡ heldBy p i
-  pub from : (i : ℕ) → i < atMost64 n → holdsBy p i ≡ true → cell x fromAt i < atMost64 n
+  pub from : (i : ℕ) → i < atMost64 n → cell x fromAt i < atMost64 n
   pub texts : (k : ℕ) → k < atMost64 n → cell x dataAt k ≡ dataLen (dataIn base k)
   pub short : (k : ℕ) → k < atMost64 n → dataLen (dataIn base k) ≤ 129
   pub resting : (i : ℕ) → i < atMost64 n → has rests i ≡ canSleepOf n (getD held i noPayload)

@@ -61,6 +61,12 @@ row-other k i (v ∷ vs) x p j apart =
     row-other (k + 64) i vs (set x (k + i) v) p j (λ m h e. apart (suc m) (omega arith) (omega arith))
     ∙ getD-set-other x (k + i) (p + j) v 0 (λ e. apart 0 (omega arith) (omega arith))
 
+-- nor does a number before the first column
+pub row-before : (k i : ℕ) (vs x : List ℕ) (q : ℕ) → q < k → getD (rowPut k i vs x) q 0 ≡ getD x q 0
+unfolding rowPut
+row-before k i [] x q h = refl
+row-before k i (v ∷ vs) x q h = row-before (k + 64) i vs (set x (k + i) v) q (omega arith) ∙ getD-set-other x (k + i) q v 0 (λ e. omega arith)
+
 -- number m of those that were put
 pub row-own : (k i : ℕ) (vs x : List ℕ) (m : ℕ) → i < 64 → m < length vs → k + 64 * length vs ≤ length x → cell (rowPut k i vs x) (k + 64 * m) i ≡ getD vs m 0
 unfolding rowPut cell
