@@ -5,3 +5,4 @@ pub mod Settling
 pub mod Idling
 pub mod PlanCursor
 pub mod Targets
+pub mod Unpacking

@@ -6,7 +6,7 @@ use Rattle.capture.proofs.board.node_by.Tie as tie
 
 returns : tie.Need-returns
 unfolding nodeBy cell
-returns c = ?
+returns c = rw (c .before .before .before .before .before .state-by .ensures, c .before .before .before .before .is-marked .ensures)
 
 pub node-by-spec : {M : Type 1} → statement M
 node-by-spec =
