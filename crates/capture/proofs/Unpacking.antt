@@ -1,4 +1,5 @@
--- A round begins: sets and table that were taken from a state show the state that the round starts with. Assumes nothing.
+-- A round begins: sets and table that were taken from a state show the state that the round starts with. First what
+-- one mark and the three sets of phases say once they are written, then one position after the other. Assumes nothing.
 use Prim.Native.Nat.{ℕ, _+_, _*_, _%_, _≤_, _<_}
 use mathlib.Core.Bool.{Bool, true, false, not, _||_, _&&_}
 use mathlib.Core.List.{List}
@@ -8,7 +9,6 @@ use lib.ListN.{length, getD}
 use native.Mathlib.Omega.{arith}
 use borrow.Author.Tests.{eqb-true, eqb-false, eq-eqb, ne-eqb, lt-ltb, le-ltb, ltb-true, ltb-false}
 use Rattle.loops.specs.Pick.{either}
-use Rattle.loops.specs.Upto.{upto}
 use Rattle.marks.specs.Marks.{has}
 use Rattle.marks.specs.Laws.{has-none}
 use Rattle.packets.specs.Writing.{dataLen}
@@ -29,9 +29,11 @@ use Rattle.engines.specs.declared.node.NodeState.the-variants.{Listen, Flood, S
 use Rattle.engines.specs.declared.network.RoundConf.{RoundConf}
 use Rattle.engines.proofs.Places.{place-local, local-same, local-fixed}
 use Rattle.engines.proofs.Cells.{row-length, row-other, row-own}
-use Rattle.capture.specs.Turns.{started, startAt, startedAll}
+use Rattle.capture.specs.Turns.{started, startedAll}
 use Rattle.capture.specs.Capture.{startOf}
-use Rattle.capture.specs.Boards.{tableCells, fromAt, dataAt, stateBy, Split, nodeBy, nodesBy, holdsBy, phaseBy, heldBy, slipBy, dataIn, payloadBy, payloadsBy, ShownHeld, seenBy, Shown, rowFor, PutPhase, NotedAt, Taken, FirstStates}
+use Rattle.capture.specs.Boards.{stateBy, Split, nodeBy, nodesBy, holdsBy, phaseBy, heldBy, slipBy, dataIn}
+use Rattle.capture.specs.Boards.{payloadBy, payloadsBy, ShownHeld, seenBy, Shown}
+use Rattle.capture.specs.Boards.{rowFor, PutPhase, NotedAt, Taken, FirstStates}
 use Rattle.capture.specs.declared.board.Phases.{Phases}
 use Rattle.capture.specs.declared.board.Board.{Board}
 use Rattle.capture.specs.declared.board.Noted.{Noted}
@@ -43,6 +45,7 @@ and-none : (t : Bool) → (t && false) ≡ false
 and-none true = refl
 and-none false = refl
 
+-- with mark i, and without it, as `put` says it
 pub put-with : (x : Bool) (i j : ℕ) → i < 64 → (x || (ltb j 64 && eqb j i)) ≡ either (eqb j i) true x
 put-with x i j h = by (eqb j i) refl x
   where
@@ -60,8 +63,13 @@ put-without false false = refl
 
 -- ---- the sets of phases
 
+-- the phase that the marks in `committed` and `aborted` say
+abbrev said : Bool → Bool → TwoPcPhase
+said b c = either b Committed (either c Aborted Prepare)
+
 -- the marks a, b, c of position i say a packet of phase f
-pub put-three : {p : Phases} {i : ℕ} {f : TwoPcPhase} {r : Phases} (a b c : Bool) → (a || (b || c)) ≡ true → either b Committed (either c Aborted Prepare) ≡ f
+pub put-three : {p : Phases} {i : ℕ} {f : TwoPcPhase} {r : Phases} (a b c : Bool)
+    → (a || (b || c)) ≡ true → said b c ≡ f
     → ((j : ℕ) → has (r .prepared) j ≡ either (eqb j i) a (has (p .prepared) j))
     → ((j : ℕ) → has (r .committed) j ≡ either (eqb j i) b (has (p .committed) j))
     → ((j : ℕ) → has (r .aborted) j ≡ either (eqb j i) c (has (p .aborted) j))
@@ -69,25 +77,21 @@ pub put-three : {p : Phases} {i : ℕ} {f : TwoPcPhase} {r : Phases} (a b c : Bo
 unfolding holdsBy phaseBy
 put-three {p} {i} {f} {r} a b c some which ea eb ec eu =
     record {
-      holds = λ j. rw (ea j, eb j, ec j) (held j (eqb j i));
-      phase = λ j. rw (eb j, ec j) (phase j (eqb j i));
+      holds = λ j. rw (ea j, eb j, ec j)
+          (held (eqb j i) (has (p .prepared) j) (has (p .committed) j) (has (p .aborted) j));
+      phase = λ j. rw (eb j, ec j) (phase (eqb j i) (has (p .committed) j) (has (p .aborted) j));
       unreadable = eu;
     }
   where
-    held : (j : ℕ) (t : Bool) → (either t a (has (p .prepared) j) || (either t b (has (p .committed) j) || either t c (has (p .aborted) j)))
-        ≡ either t true (has (p .prepared) j || (has (p .committed) j || has (p .aborted) j))
-    held j true = some
-    held j false = refl
+    held : (t x y z : Bool) → (either t a x || (either t b y || either t c z)) ≡ either t true (x || (y || z))
+    held true x y z = some
+    held false x y z = refl
 
-    phase : (j : ℕ) (t : Bool) → either (either t b (has (p .committed) j)) Committed (either (either t c (has (p .aborted) j)) Aborted Prepare)
-        ≡ either t f (either (has (p .committed) j) Committed (either (has (p .aborted) j) Aborted Prepare))
-    phase j true = which
-    phase j false = refl
+    phase : (t y z : Bool) → said (either t b y) (either t c z) ≡ either t f (said y z)
+    phase true y z = which
+    phase false y z = refl
 
--- who holds nothing, and what it then holds
-not-packet : (t u : Bool) → either t Packet (either u Unreadable Empty) ≡ Empty → t ≡ false
-not-packet true u e = absurd (let z : _≡_ {A = ℕ} 0 1 = cc in omega arith)
-not-packet false u e = refl
+-- ---- a position entered into the sets, by what it holds
 
 pub noted-empty : {p : Phases} {i : ℕ} {held : Held} {f : TwoPcPhase} → held ≡ Empty → NotedAt p i held f p
 noted-empty h =
@@ -97,9 +101,14 @@ noted-empty h =
       phase = λ e. absurd (let z : _≡_ {A = ℕ} 0 1 = cc in omega arith);
     }
 
+not-packet : (t u : Bool) → either t Packet (either u Unreadable Empty) ≡ Empty → t ≡ false
+not-packet true u e = absurd (let z : _≡_ {A = ℕ} 0 1 = cc in omega arith)
+not-packet false u e = refl
+
 pub noted-unreadable : {p : Phases} {i : ℕ} {held : Held} {f : TwoPcPhase} (u : ℕ) → held ≡ Unreadable
     → ((j : ℕ) → has u j ≡ either (eqb j i) true (has (p .unreadable) j))
-    → NotedAt p i held f (record { prepared = p .prepared; committed = p .committed; aborted = p .aborted; unreadable = u })
+    → NotedAt p i held f
+    (record { prepared = p .prepared; committed = p .committed; aborted = p .aborted; unreadable = u })
 unfolding holdsBy heldBy phaseBy
 noted-unreadable {p} {i} u h e =
     record {
@@ -111,7 +120,8 @@ noted-unreadable {p} {i} u h e =
     none : heldBy p i ≡ Empty → (has (p .prepared) i || (has (p .committed) i || has (p .aborted) i)) ≡ false
     none q = not-packet (has (p .prepared) i || (has (p .committed) i || has (p .aborted) i)) (has (p .unreadable) i) q
 
-pub noted-packet : {p : Phases} {i : ℕ} {held : Held} {f : TwoPcPhase} {r : Phases} → held ≡ Packet → PutPhase p i f r → NotedAt p i held f r
+pub noted-packet : {p : Phases} {i : ℕ} {held : Held} {f : TwoPcPhase} {r : Phases} → held ≡ Packet → PutPhase p i f r
+    → NotedAt p i held f r
 unfolding heldBy
 noted-packet {p} {i} h o =
     record {
@@ -123,8 +133,10 @@ noted-packet {p} {i} h o =
 -- ---- the states of the first slot
 
 pub first-states : {n initiator : ℕ} (all first : ℕ) {r : StateSets}
-    → ((j : ℕ) → has all j ≡ (ltb j n && ltb j 64)) → ((j : ℕ) → has first j ≡ (has 0 j || (ltb j 64 && eqb j initiator)))
-    → ((j : ℕ) → has (r .listening) j ≡ (has all j && not (has first j))) → ((j : ℕ) → has (r .flooding) j ≡ (has all j && has first j))
+    → ((j : ℕ) → has all j ≡ (ltb j n && ltb j 64))
+    → ((j : ℕ) → has first j ≡ (has 0 j || (ltb j 64 && eqb j initiator)))
+    → ((j : ℕ) → has (r .listening) j ≡ (has all j && not (has first j)))
+    → ((j : ℕ) → has (r .flooding) j ≡ (has all j && has first j))
     → r .sleeping ≡ 0 → FirstStates n initiator r
 first-states {n} {initiator} all first ea ef el eg es =
     record {
@@ -133,8 +145,11 @@ first-states {n} {initiator} all first ea ef el eg es =
       sleeping = es;
     }
   where
-    by : (j : ℕ) (g : Bool → Bool) (t : Bool) → ltb j (atMost64 n) ≡ t → ((ltb j n && ltb j 64) && g (ltb j 64 && eqb j initiator)) ≡ (t && g (eqb j initiator))
-    by j g true q = rw (lt-ltb j n (omega (arith, ltb-true j (atMost64 n) q)), lt-ltb j 64 (omega (arith, ltb-true j (atMost64 n) q)))
+    by : (j : ℕ) (g : Bool → Bool) (t : Bool) → ltb j (atMost64 n) ≡ t
+        → ((ltb j n && ltb j 64) && g (ltb j 64 && eqb j initiator)) ≡ (t && g (eqb j initiator))
+    by j g true q =
+        let l : j < atMost64 n = ltb-true j (atMost64 n) q in
+        rw (lt-ltb j n (omega arith), lt-ltb j 64 (omega arith))
     by j g false q = rw (out (ltb j n) refl (ltb j 64) refl)
       where
         out : (s : Bool) → ltb j n ≡ s → (t : Bool) → ltb j 64 ≡ t → (s && t) ≡ false
@@ -157,11 +172,17 @@ nodeAt c j = getD (c .network .nodes) j noNode
 abbrev heldAt : CeState → ℕ → Payload
 heldAt c j = getD (c .held) j noPayload
 
+-- the numbers of position j when the round begins
 abbrev rowAt : CeState → ℕ → List ℕ
 rowAt c j = rowFor (c .network .slot) j (nodeAt c j) (heldAt c j)
 
 abbrev nothing : Noted
-nothing = record { «goal_reached» = 0; phases = record { prepared = 0; committed = 0; aborted = 0; unreadable = 0 }; «can_sleep» = 0 }
+nothing =
+    record {
+      «goal_reached» = 0;
+      phases = record { prepared = 0; committed = 0; aborted = 0; unreadable = 0 };
+      «can_sleep» = 0;
+    }
 
 pub taken-none : (n : ℕ) (c : CeState) {x : List ℕ} → length x ≡ 576 → Taken n 0 c nothing x
 unfolding heldBy holdsBy
@@ -175,7 +196,8 @@ taken-none n c h =
       phase = λ j b q. absurd (omega arith);
     }
 
-pub taken-turn : (n : ℕ) (c : CeState) (i : ℕ) {s r : Noted} {x y : List ℕ} → i < 64 → Taken n i c s x → y ≡ rowPut 0 i (rowAt c i) x
+pub taken-turn : (n : ℕ) (c : CeState) (i : ℕ) {s r : Noted} {x y : List ℕ} → i < 64 → Taken n i c s x
+    → y ≡ rowPut 0 i (rowAt c i) x
     → ((j : ℕ) → has (r .«goal_reached») j ≡ either (eqb j i) (nodeAt c i .«goal_reached») (has (s .«goal_reached») j))
     → ((j : ℕ) → has (r .«can_sleep») j ≡ either (eqb j i) (canSleepOf n (heldAt c i)) (has (s .«can_sleep») j))
     → NotedAt (s .phases) i (heldAt c i .held) (heldAt c i .packet .phase) (r .phases) → Taken n (i + 1) c r y
@@ -189,6 +211,10 @@ taken-turn n c i {s} {r} {x} {y} h o ey eg er ep =
       phase = λ j b q. phase j b q (eqb j i) refl;
     }
   where
+    -- another position than i was taken before
+    sooner : (j : ℕ) → j < i + 1 → eqb j i ≡ false → j < i
+    sooner j b q = let n : j ≡ i → ⊥ = eqb-false j i q in omega arith
+
     cells : (j : ℕ) → j < i + 1 → (k : ℕ) → k < 9 → (t : Bool) → eqb j i ≡ t → cell y (64 * k) j ≡ getD (rowAt c j) k 0
     cells j b k d true q =
         let e : j ≡ i = eqb-true j i q in
@@ -200,38 +226,39 @@ taken-turn n c i {s} {r} {x} {y} h o ey eg er ep =
         ∙ ap (λ (p : ℕ). getD (rowAt c p) k 0) (sym e)
     cells j b k d false q =
         let n : j ≡ i → ⊥ = eqb-false j i q in
-        let l : j < i = omega arith in
-        rw ey (row-other 0 i (rowAt c i) x (64 * k) j (λ m v e. omega arith) ∙ o .cells j l k d)
+        rw ey (row-other 0 i (rowAt c i) x (64 * k) j (λ m v e. omega arith) ∙ o .cells j (sooner j b q) k d)
 
-    goal : (j : ℕ) → j < i + 1 → (t : Bool) → eqb j i ≡ t → either t (nodeAt c i .«goal_reached») (has (s .«goal_reached») j) ≡ nodeAt c j .«goal_reached»
-    goal j b true q = let e : j ≡ i = eqb-true j i q in rw e
-    goal j b false q = let n : j ≡ i → ⊥ = eqb-false j i q in let l : j < i = omega arith in o .goal j l
+    goal : (j : ℕ) → j < i + 1 → (t : Bool) → eqb j i ≡ t
+        → either t (nodeAt c i .«goal_reached») (has (s .«goal_reached») j) ≡ nodeAt c j .«goal_reached»
+    goal j b true q = rw (eqb-true j i q)
+    goal j b false q = o .goal j (sooner j b q)
 
-    rests : (j : ℕ) → j < i + 1 → (t : Bool) → eqb j i ≡ t → either t (canSleepOf n (heldAt c i)) (has (s .«can_sleep») j) ≡ canSleepOf n (heldAt c j)
-    rests j b true q = let e : j ≡ i = eqb-true j i q in rw e
-    rests j b false q = let n : j ≡ i → ⊥ = eqb-false j i q in let l : j < i = omega arith in o .rests j l
+    rests : (j : ℕ) → j < i + 1 → (t : Bool) → eqb j i ≡ t
+        → either t (canSleepOf n (heldAt c i)) (has (s .«can_sleep») j) ≡ canSleepOf n (heldAt c j)
+    rests j b true q = rw (eqb-true j i q)
+    rests j b false q = o .rests j (sooner j b q)
+
+    empty : heldBy (s .phases) i ≡ Empty
+    empty = o .held i ∙ ap (λ (t : Bool). either t (heldAt c i .held) Empty) (le-ltb i i (omega arith))
 
     held : (j : ℕ) (t : Bool) → eqb j i ≡ t → heldBy (r .phases) j ≡ either (ltb j (i + 1)) (heldAt c j .held) Empty
-    held j true q =
-        let e : j ≡ i = eqb-true j i q in
-        rw (e, lt-ltb i (i + 1) (omega arith)) (ep .own (o .held i ∙ ap (λ (t : Bool). either t (heldAt c i .held) Empty) (le-ltb i i (omega arith))))
+    held j true q = rw (eqb-true j i q, lt-ltb i (i + 1) (omega arith)) (ep .own empty)
     held j false q = rw (ltb-next j i (eqb-false j i q)) (ep .others j (eqb-false j i q) .0 ∙ o .held j)
 
-    phase : (j : ℕ) → j < i + 1 → heldAt c j .held ≡ Packet → (t : Bool) → eqb j i ≡ t → phaseBy (r .phases) j ≡ heldAt c j .packet .phase
+    phase : (j : ℕ) → j < i + 1 → heldAt c j .held ≡ Packet → (t : Bool) → eqb j i ≡ t
+        → phaseBy (r .phases) j ≡ heldAt c j .packet .phase
     phase j b p true q = let e : j ≡ i = eqb-true j i q in rw e (ep .phase (rw e at p))
-    phase j b p false q =
-        let n : j ≡ i → ⊥ = eqb-false j i q in
-        let l : j < i = omega arith in
-        ep .others j n .1 ∙ o .phase j l p
+    phase j b p false q = ep .others j (eqb-false j i q) .1 ∙ o .phase j (sooner j b q) p
 
-pub taken-all : (n : ℕ) (c : CeState) {i k : ℕ} {s : Noted} {x : List ℕ} → i ≤ k → k ≤ i → Taken n i c s x → Taken n k c s x
+pub taken-all : (n : ℕ) (c : CeState) {i k : ℕ} {s : Noted} {x : List ℕ} → i ≤ k → k ≤ i → Taken n i c s x
+    → Taken n k c s x
 taken-all n c {i} {k} h l o = let e : i ≡ k = omega arith in rw e at o
 
 -- ---- what is shown then
 
 -- the sets of the first slot, by the states that they say
 module _ {n initiator : ℕ} {s : StateSets} (f : FirstStates n initiator s) where
-  first-state : (i : ℕ) → stateBy s i ≡ either (ltb i (atMost64 n) && eqb i initiator) Flood Listen
+  pub first-state : (i : ℕ) → stateBy s i ≡ either (ltb i (atMost64 n) && eqb i initiator) Flood Listen
   unfolding stateBy
   first-state i = rw (f .flooding i, f .sleeping, has-none i)
 
@@ -240,10 +267,15 @@ module _ {n initiator : ℕ} {s : StateSets} (f : FirstStates n initiator s) whe
       record {
         listening = λ i. f .listening i ∙ listens (ltb i (atMost64 n)) (eqb i initiator) ∙ back i isListen;
         flooding = λ i. f .flooding i ∙ floods (ltb i (atMost64 n)) (eqb i initiator) ∙ back i isFlood;
-        sleeping = λ i. ap (λ (m : ℕ). has m i) (f .sleeping) ∙ has-none i ∙ sleeps (ltb i (atMost64 n)) (eqb i initiator) ∙ back i isSleep;
+        sleeping = λ i. nobody i ∙ sleeps (ltb i (atMost64 n)) (eqb i initiator) ∙ back i isSleep;
       }
     where
-      back : (i : ℕ) (g : NodeState → Bool) → (ltb i (atMost64 n) && g (either (ltb i (atMost64 n) && eqb i initiator) Flood Listen)) ≡ (ltb i (atMost64 n) && g (stateBy s i))
+      nobody : (i : ℕ) → has (s .sleeping) i ≡ false
+      nobody i = ap (λ (m : ℕ). has m i) (f .sleeping) ∙ has-none i
+
+      back : (i : ℕ) (g : NodeState → Bool)
+          → (ltb i (atMost64 n) && g (either (ltb i (atMost64 n) && eqb i initiator) Flood Listen))
+          ≡ (ltb i (atMost64 n) && g (stateBy s i))
       back i g = ap (λ (v : NodeState). ltb i (atMost64 n) && g v) (sym (first-state i))
 
       listens : (t e : Bool) → (t && not e) ≡ (t && isListen (either (t && e) Flood Listen))
@@ -269,12 +301,16 @@ module _ (n : ℕ) (c : CeState) {s : Noted} {x : List ℕ} (o : Taken n (atMost
   taken-held : (i : ℕ) → i < atMost64 n → heldBy (s .phases) i ≡ heldAt c i .held
   taken-held i b = o .held i ∙ ap (λ (t : Bool). either t (heldAt c i .held) Empty) (lt-ltb i (atMost64 n) b)
 
-  -- a position that holds a packet, by its packet
-  taken-packet : (i : ℕ) → i < atMost64 n → holdsBy (s .phases) i ≡ true
-      → record { held = Packet; packet = packetOf (dataIn (c .held)) (slipBy (s .phases) x i) } ≡ heldAt c i
+  -- position i's payload, told by sets and table
+  abbrev told : ℕ → Payload
+  told i = record { held = Packet; packet = packetOf (dataIn (c .held)) (slipBy (s .phases) x i) }
+
+  -- .. is what it held, if it held a packet
+  taken-packet : (i : ℕ) → i < atMost64 n → holdsBy (s .phases) i ≡ true → told i ≡ heldAt c i
   unfolding slipBy heldBy
   taken-packet i b q =
-      let y : heldAt c i .held ≡ Packet = sym (taken-held i b) ∙ ap (λ (t : Bool). either t Packet (either (has (s .phases .unreadable) i) Unreadable Empty)) q in
+      let e : Packet ≡ heldBy (s .phases) i = rw q in
+      let y : heldAt c i .held ≡ Packet = sym (e ∙ taken-held i b) in
       rw (
         o .phase i b y,
         o .cells i b 4 (omega arith),
@@ -288,11 +324,11 @@ module _ (n : ℕ) (c : CeState) {s : Noted} {x : List ℕ} (o : Taken n (atMost
   taken-payloads : length (c .held) ≡ 64 → payloadsBy n (c .held) (s .phases) x ≡ c .held
   unfolding payloadsBy payloadBy
   taken-payloads h =
-      local-fixed noPayload _ _ (place-local noPayload (payloadBy (c .held) (s .phases) x)) (c .held) (atMost64 n) (omega arith)
-      (λ i b. at i b (holdsBy (s .phases) i) refl)
+      local-fixed noPayload _ _ (place-local noPayload (payloadBy (c .held) (s .phases) x))
+      (c .held) (atMost64 n) (omega arith) (λ i b. at i b (holdsBy (s .phases) i) refl)
     where
       at : (i : ℕ) → i < atMost64 n → (t : Bool) → holdsBy (s .phases) i ≡ t
-          → either t (record { held = Packet; packet = packetOf (dataIn (c .held)) (slipBy (s .phases) x i) }) (heldAt c i) ≡ heldAt c i
+          → either t (told i) (heldAt c i) ≡ heldAt c i
       at i b true q = taken-packet i b q
       at i b false q = refl
 
@@ -309,12 +345,17 @@ module _ (n : ℕ) (c : CeState) {s : Noted} {x : List ℕ} (o : Taken n (atMost
       }
 
   nodes-start : (initiator : ℕ) {states : StateSets} → length (c .network .nodes) ≡ 64 → FirstStates n initiator states
-      → nodesBy n (c .network .nodes) states (s .«goal_reached») x ≡ startedAll n initiator (c .network .slot) (c .network .nodes)
+      → nodesBy n (c .network .nodes) states (s .«goal_reached») x
+      ≡ startedAll n initiator (c .network .slot) (c .network .nodes)
   unfolding nodesBy startedAll nodeBy started
   nodes-start initiator {states} h f =
-      local-same noNode _ _ _ _ (place-local noNode (nodeBy states (s .«goal_reached») x)) (place-local noNode (started initiator (c .network .slot))) (c .network .nodes) (atMost64 n) (omega arith) at
+      local-same noNode _ _ _ _
+      (place-local noNode (nodeBy states (s .«goal_reached») x))
+      (place-local noNode (started initiator (c .network .slot)))
+      (c .network .nodes) (atMost64 n) (omega arith) at
     where
-      at : (i : ℕ) → i < atMost64 n → nodeBy states (s .«goal_reached») x i (nodeAt c i) ≡ started initiator (c .network .slot) i (nodeAt c i)
+      at : (i : ℕ) → i < atMost64 n
+          → nodeBy states (s .«goal_reached») x i (nodeAt c i) ≡ started initiator (c .network .slot) i (nodeAt c i)
       at i b =
           rw (
             first-state f i,
@@ -342,7 +383,9 @@ firstBoard c s states cursor =
       ended = false;
     }
 
-pub shown-start : (n : ℕ) (c : CeState) (initiator cursor : ℕ) {s : Noted} {states : StateSets} {x : List ℕ} → length (c .network .nodes) ≡ 64 → length (c .held) ≡ 64
+-- board and table show the state that the round starts with
+pub shown-start : (n : ℕ) (c : CeState) (initiator cursor : ℕ) {s : Noted} {states : StateSets} {x : List ℕ}
+    → length (c .network .nodes) ≡ 64 → length (c .held) ≡ 64
     → Taken n (atMost64 n) c s x → FirstStates n initiator states → (conf : RoundConf) → conf .graph .n ≡ n
     → Shown n c (firstBoard c s states cursor) x (startOf conf initiator cursor c)
 unfolding seenBy startOf

@@ -5,7 +5,12 @@ use Rattle.capture.proofs.board.first_states.Statement.{statement}
 use Rattle.capture.proofs.board.first_states.Tie as tie
 
 returns : tie.Need-returns
-returns c = first-states (c .before .before .before .first-marks .result) (c .before .before .with-mark .result) (c .before .before .before .first-marks .ensures) (c .before .before .with-mark .ensures) (c .before .difference .ensures) (c .intersection .ensures) refl
+returns c =
+    let first = c .before .before in
+    let all = first .before in
+    first-states (all .first-marks .result) (first .with-mark .result)
+    (all .first-marks .ensures) (first .with-mark .ensures)
+    (c .before .difference .ensures) (c .intersection .ensures) refl
 
 pub first-states-spec : {M : Type 1} → statement M
 first-states-spec =

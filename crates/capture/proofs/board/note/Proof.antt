@@ -1,10 +1,13 @@
-use mathlib.Core.Path.{_∙_}
 use borrow.Author.Needs.{needs}
 use Rattle.capture.proofs.board.note.Statement.{statement}
 use Rattle.capture.proofs.board.note.Tie as tie
 
 returns : tie.Need-returns
-returns c = (c .before .before .put .ensures, (λ j. rw (← c .before .node-can-sleep .ensures) (c .put2 .ensures j), c .before .before .before .note-phases .ensures))
+returns c =
+    let rests = c .before in (
+      rests .before .put .ensures,
+      (λ j. rw (← rests .node-can-sleep .ensures) (c .put2 .ensures j), rests .before .before .note-phases .ensures),
+    )
 
 pub note-spec : {M : Type 1} → statement M
 note-spec =

@@ -21,7 +21,12 @@ abbrev μ-loop : tie.MeasureT-loop
 
 loop-again : tie.Need-loop-again Inv-loop μ-loop
 unfolding dataIn cell
-loop-again c = (c .before .before .before .before .before .before .before .loop .inv .0, omega arith, upto-turn _ _ (c .before .before .before .before .before .before .before .loop .inv .2) (rw (c .payload-by .ensures (c .before .before .before .before .before .before .before .before .before .args .t1) refl)))
+loop-again c =
+    let loop = c .before .before .before .before .before .before .before in (
+      loop .loop .inv .0,
+      omega arith,
+      upto-turn _ _ (loop .loop .inv .2) (rw (c .payload-by .ensures (loop .before .before .args .t1) refl)),
+    )
 
 returns : tie.Need-returns Inv-loop μ-loop
 unfolding payloadsBy

@@ -18,7 +18,12 @@ abbrev μ-loop : tie.MeasureT-loop
 μ-loop n s goal-reached table count a₀ i₀ a i = count - i
 
 loop-again : tie.Need-loop-again Inv-loop μ-loop
-loop-again c = (c .before .before .before .loop .inv .0, omega arith, upto-turn _ _ (c .before .before .before .loop .inv .2) (rw (c .node-by .ensures)))
+loop-again c =
+    let loop = c .before .before .before in (
+      loop .loop .inv .0,
+      omega arith,
+      upto-turn _ _ (loop .loop .inv .2) (rw (c .node-by .ensures)),
+    )
 
 returns : tie.Need-returns Inv-loop μ-loop
 unfolding nodesBy

@@ -11,7 +11,10 @@ returns c = λ base d. rw (sym (c .before .holds .ensures) ∙ not-true _ (c .if
 
 returns-2 : tie.Need-returns-2
 unfolding payloadBy slipBy
-returns-2 c = λ base d. rw (sym (c .before .before .before .holds .ensures) ∙ not-false _ (c .before .before .if1 .left), c .before .slip-at .ensures, d)
+returns-2 c =
+    let slip = c .before in
+    let test = slip .before in
+    λ base d. rw (sym (test .before .holds .ensures) ∙ not-false _ (test .if1 .left), slip .slip-at .ensures, d)
 
 pub payload-by-spec : {M : Type 1} → statement M
 payload-by-spec =

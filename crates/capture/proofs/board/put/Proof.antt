@@ -10,7 +10,10 @@ returns : tie.Need-returns
 returns c = λ j. rw (c .before .if1 .taken) (c .with-mark .ensures j ∙ put-with _ _ j (c .before .before .pre))
 
 returns-2 : tie.Need-returns-2
-returns-2 c = λ j. rw (c .before .if1 .left) (c .without-mark .ensures j ∙ put-without (has (c .before .before .args .m) j) (eqb j (c .before .before .args .i)))
+returns-2 c =
+    let start = c .before .before in
+    λ j. rw (c .before .if1 .left)
+    (c .without-mark .ensures j ∙ put-without (has (start .args .m) j) (eqb j (start .args .i)))
 
 pub put-spec : {M : Type 1} → statement M
 put-spec =

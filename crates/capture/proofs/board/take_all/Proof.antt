@@ -20,7 +20,15 @@ loop-holds : tie.Need-loop-holds Inv-loop μ-loop
 loop-holds c = (c .before .at-most-64 .ensures, omega arith, λ h. taken-none _ _ h)
 
 loop-again : tie.Need-loop-again Inv-loop μ-loop
-loop-again c = (c .before .before .before .before .before .before .loop .inv .0, omega arith, λ h. taken-turn _ (c .before .before .before .before .before .before .before .before .before .args .t2) (c .before .before .before .before .before .before .loop .i) (omega arith) (c .before .before .before .before .before .before .loop .inv .2 h) (c .before .take-position .ensures) (c .note .ensures .0) (c .note .ensures .1 .0) (c .note .ensures .1 .1))
+loop-again c =
+    let loop = c .before .before .before .before .before .before in
+    let note = c .note .ensures in
+    let numbers = c .before .take-position .ensures in (
+      loop .loop .inv .0,
+      omega arith,
+      λ h. taken-turn _ (loop .before .before .before .args .t2) (loop .loop .i) (omega arith) (loop .loop .inv .2 h)
+          numbers (note .0) (note .1 .0) (note .1 .1),
+    )
 
 returns : tie.Need-returns Inv-loop μ-loop
 returns c = λ h. taken-all _ _ (omega arith) (omega arith) (c .before .loop .inv .2 h)
