@@ -25,7 +25,7 @@ use Rattle.engines.specs.Nodes.{noNode, isListen, isFlood, isSleep}
 use Rattle.engines.specs.declared.node.Node.{Node}
 use Rattle.engines.specs.declared.node.StateSets.{StateSets}
 use Rattle.engines.specs.declared.node.NodeState.{NodeState}
-use Rattle.engines.specs.declared.node.NodeState.the-variants.{Listen, Flood, Sleep}
+use Rattle.engines.specs.declared.node.NodeState.the-variants.{Listen, Flood}
 use Rattle.engines.specs.declared.network.RoundConf.{RoundConf}
 use Rattle.engines.proofs.Places.{place-local, local-same, local-fixed}
 use Rattle.engines.proofs.Cells.{row-length, row-other, row-own}
