@@ -9,3 +9,4 @@ pub mod Settling
 pub mod Idling
 pub mod PlanCursor
 pub mod Targets
+pub mod Unpacking

@@ -10,11 +10,21 @@ returns c = rw (sym (c .before .holds .ensures) ∙ c .if1 .taken)
 
 returns-2 : tie.Need-returns-2
 unfolding heldBy
-returns-2 c = rw (sym (c .before .before .before .holds .ensures) ∙ c .before .before .if1 .left, sym (c .before .is-marked .ensures) ∙ c .if2 .taken)
+returns-2 c =
+    let first = c .before .before in
+    rw (
+      sym (first .before .holds .ensures) ∙ first .if1 .left,
+      sym (c .before .is-marked .ensures) ∙ c .if2 .taken,
+    )
 
 returns-3 : tie.Need-returns-3
 unfolding heldBy
-returns-3 c = rw (sym (c .before .before .before .holds .ensures) ∙ c .before .before .if1 .left, sym (c .before .is-marked .ensures) ∙ c .if2 .left)
+returns-3 c =
+    let first = c .before .before in
+    rw (
+      sym (first .before .holds .ensures) ∙ first .if1 .left,
+      sym (c .before .is-marked .ensures) ∙ c .if2 .left,
+    )
 
 pub held-by-spec : {M : Type 1} → statement M
 held-by-spec =

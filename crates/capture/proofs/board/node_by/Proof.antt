@@ -6,7 +6,9 @@ use Rattle.capture.proofs.board.node_by.Tie as tie
 
 returns : tie.Need-returns
 unfolding nodeBy cell
-returns c = ?
+returns c =
+    let marked = c .before .before .before .before in
+    rw (marked .before .state-by .ensures, marked .is-marked .ensures)
 
 pub node-by-spec : {M : Type 1} → statement M
 node-by-spec =

@@ -1,48 +1,26 @@
+use Rattle.capture.proofs.Unpacking.{noted-empty, noted-unreadable, noted-packet}
 use borrow.Author.Needs.{needs}
 use Rattle.capture.proofs.board.note_phases.Statement.{statement}
 use Rattle.capture.proofs.board.note_phases.Tie as tie
 
--- src/board.rt:224:24
-enum-told : tie.Need-enum-told
-enum-told c = search needs
-
--- src/board.rt:229:25
-enum-told-2 : tie.Need-enum-told-2
-enum-told-2 c = search needs
-
--- src/board.rt:229:25
-put-requires : tie.Need-put-requires
-put-requires c κs = search needs
-
--- src/board.rt:231:25
-enum-told-3 : tie.Need-enum-told-3
-enum-told-3 c = search needs
-
--- src/board.rt:231:25
-put-phase-requires : tie.Need-put-phase-requires
-put-phase-requires c κs = search needs
-
--- src/board.rt:219:1
 returns : tie.Need-returns
-returns c = ?
+returns c = noted-empty (c .enum-told .given .1)
 
--- src/board.rt:219:1
 returns-2 : tie.Need-returns-2
-returns-2 c = ?
+returns-2 c = noted-unreadable (c .put .result) (c .before .enum-told2 .given .1) (c .put .ensures)
 
--- src/board.rt:219:1
 returns-3 : tie.Need-returns-3
-returns-3 c = ?
+returns-3 c = noted-packet (c .before .enum-told3 .given .1) (c .put-phase .ensures)
 
 pub note-phases-spec : {M : Type 1} → statement M
 note-phases-spec =
     tie.close
     (tie.spec
-    enum-told
-    enum-told-2
-    put-requires
-    enum-told-3
-    put-phase-requires
+    (λ c. search needs)
+    (λ c. search needs)
+    (λ c κs. search needs)
+    (λ c. search needs)
+    (λ c κs. search needs)
     returns
     returns-2
     returns-3)

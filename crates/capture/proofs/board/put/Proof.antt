@@ -1,22 +1,25 @@
+use mathlib.Core.Path.{_∙_}
+use lib.Dec.{eqb}
+use Rattle.marks.specs.Marks.{has}
+use Rattle.capture.proofs.Unpacking.{put-with, put-without}
 use borrow.Author.Needs.{needs}
 use Rattle.capture.proofs.board.put.Statement.{statement}
 use Rattle.capture.proofs.board.put.Tie as tie
 
--- src/board.rt:159:9
-with-mark-requires : tie.Need-with-mark-requires
-with-mark-requires c κs = search needs
-
--- src/board.rt:159:9
 returns : tie.Need-returns
-returns c = ?
+returns c = λ j. rw (c .before .if1 .taken) (c .with-mark .ensures j ∙ put-with _ _ j (c .before .before .pre))
 
--- src/board.rt:161:5
-without-mark-requires : tie.Need-without-mark-requires
-without-mark-requires c κs = search needs
-
--- src/board.rt:154:1
 returns-2 : tie.Need-returns-2
-returns-2 c = ?
+returns-2 c =
+    let start = c .before .before in
+    λ j. rw (c .before .if1 .left)
+    (c .without-mark .ensures j ∙ put-without (has (start .args .m) j) (eqb j (start .args .i)))
 
 pub put-spec : {M : Type 1} → statement M
-put-spec = tie.close (tie.spec with-mark-requires returns without-mark-requires returns-2)
+put-spec =
+    tie.close
+    (tie.spec
+    (λ c κs. search needs)
+    returns
+    (λ c κs. search needs)
+    returns-2)

@@ -6,7 +6,7 @@ use Rattle.capture.proofs.board.slip_at.Tie as tie
 
 returns : tie.Need-returns
 unfolding slipBy cell
-returns c = rw (c .before .before .before .before .before .before .before .before .phase-by .ensures)
+returns c = rw (c .before .before .before .before .phase-by .ensures)
 
 pub slip-at-spec : {M : Type 1} → statement M
 slip-at-spec =

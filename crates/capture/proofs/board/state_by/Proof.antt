@@ -10,11 +10,21 @@ returns c = rw (sym (c .before .is-marked .ensures) ∙ c .if1 .taken)
 
 returns-2 : tie.Need-returns-2
 unfolding stateBy
-returns-2 c = rw (sym (c .before .before .before .is-marked .ensures) ∙ c .before .before .if1 .left, sym (c .before .is-marked2 .ensures) ∙ c .if2 .taken)
+returns-2 c =
+    let first = c .before .before in
+    rw (
+      sym (first .before .is-marked .ensures) ∙ first .if1 .left,
+      sym (c .before .is-marked2 .ensures) ∙ c .if2 .taken,
+    )
 
 returns-3 : tie.Need-returns-3
 unfolding stateBy
-returns-3 c = rw (sym (c .before .before .before .is-marked .ensures) ∙ c .before .before .if1 .left, sym (c .before .is-marked2 .ensures) ∙ c .if2 .left)
+returns-3 c =
+    let first = c .before .before in
+    rw (
+      sym (first .before .is-marked .ensures) ∙ first .if1 .left,
+      sym (c .before .is-marked2 .ensures) ∙ c .if2 .left,
+    )
 
 pub state-by-spec : {M : Type 1} → statement M
 state-by-spec =
