@@ -190,6 +190,7 @@ taken-none n c h =
     record {
       table = h;
       cells = λ j b k d. absurd (omega arith);
+      short = λ j b. absurd (omega arith);
       goal = λ j b. absurd (omega arith);
       rests = λ j b. absurd (omega arith);
       held = λ j. rw (has-none j, le-ltb j 0 (omega arith));
@@ -197,14 +198,15 @@ taken-none n c h =
     }
 
 pub taken-turn : (n : ℕ) (c : CeState) (i : ℕ) {s r : Noted} {x y : List ℕ} → i < 64 → Taken n i c s x
-    → y ≡ rowPut 0 i (rowAt c i) x
+    → y ≡ rowPut 0 i (rowAt c i) x → dataLen (heldAt c i .packet .«proposal_data») ≤ 129
     → ((j : ℕ) → has (r .«goal_reached») j ≡ either (eqb j i) (nodeAt c i .«goal_reached») (has (s .«goal_reached») j))
     → ((j : ℕ) → has (r .«can_sleep») j ≡ either (eqb j i) (canSleepOf n (heldAt c i)) (has (s .«can_sleep») j))
     → NotedAt (s .phases) i (heldAt c i .held) (heldAt c i .packet .phase) (r .phases) → Taken n (i + 1) c r y
-taken-turn n c i {s} {r} {x} {y} h o ey eg er ep =
+taken-turn n c i {s} {r} {x} {y} h o ey ed eg er ep =
     record {
       table = ap length ey ∙ row-length 0 i (rowAt c i) x ∙ o .table;
       cells = λ j b k d. cells j b k d (eqb j i) refl;
+      short = λ j b. short j b (eqb j i) refl;
       goal = λ j b. rw (eg j) (goal j b (eqb j i) refl);
       rests = λ j b. rw (er j) (rests j b (eqb j i) refl);
       held = λ j. held j (eqb j i) refl;
@@ -227,6 +229,10 @@ taken-turn n c i {s} {r} {x} {y} h o ey eg er ep =
     cells j b k d false q =
         let n : j ≡ i → ⊥ = eqb-false j i q in
         rw ey (row-other 0 i (rowAt c i) x (64 * k) j (λ m v e. omega arith) ∙ o .cells j (sooner j b q) k d)
+
+    short : (j : ℕ) → j < i + 1 → (t : Bool) → eqb j i ≡ t → dataLen (heldAt c j .packet .«proposal_data») ≤ 129
+    short j b true q = rw (eqb-true j i q) ed
+    short j b false q = o .short j (sooner j b q)
 
     goal : (j : ℕ) → j < i + 1 → (t : Bool) → eqb j i ≡ t
         → either t (nodeAt c i .«goal_reached») (has (s .«goal_reached») j) ≡ nodeAt c j .«goal_reached»
@@ -338,8 +344,9 @@ module _ (n : ℕ) (c : CeState) {s : Noted} {x : List ℕ} (o : Taken n (atMost
         whole = h;
         table = o .table;
         kinds = λ i b q. sym (taken-held i b);
-        from = λ i b q. rw (o .cells i b 7 (omega arith)) b;
+        from = λ i b. rw (o .cells i b 7 (omega arith)) b;
         texts = λ k b. o .cells k b 8 (omega arith) ∙ ap dataLen (sym (own-data k b));
+        short = λ k b. rw (own-data k b) (o .short k b);
         resting = λ i b. o .rests i b;
         sees = taken-payloads h;
       }

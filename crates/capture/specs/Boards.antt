@@ -222,6 +222,7 @@ pub record Taken (n i : ℕ) (base : CeState) (s : Noted) (x : List ℕ) : Type 
   pub table : length x ≡ tableCells
   pub cells : (j : ℕ) → j < i → (k : ℕ) → k < 9
       → cell x (64 * k) j ≡ getD (rowFor (base .network .slot) j (getD (base .network .nodes) j noNode) (getD (base .held) j noPayload)) k 0
+  pub short : (j : ℕ) → j < i → dataLen (getD (base .held) j noPayload .packet .«proposal_data») ≤ 129
   pub goal : (j : ℕ) → j < i → has (s .«goal_reached») j ≡ getD (base .network .nodes) j noNode .«goal_reached»
   pub rests : (j : ℕ) → j < i → has (s .«can_sleep») j ≡ canSleepOf n (getD (base .held) j noPayload)
   pub held : (j : ℕ) → heldBy (s .phases) j ≡ either (ltb j i) (getD (base .held) j noPayload .held) Empty

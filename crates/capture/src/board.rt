@@ -3,11 +3,12 @@
 // state of the rules board and table show.
 ghost use mathlib.Core.Path.{_≡_};
 ghost use mathlib.Core.Bool.{true, false, _||_};
-ghost use Prim.Native.Nat.{ℕ, _<_};
+ghost use Prim.Native.Nat.{ℕ, _<_, _≤_};
 ghost use lib.Dec.{eqb};
 ghost use lib.ListN.{length};
 ghost use Rattle.loops.specs.Pick.{either};
 ghost use Rattle.marks.specs.Marks.{has};
+ghost use Rattle.packets.specs.Writing.{dataLen};
 ghost use Rattle.merges.specs.Merging.{canSleepOf};
 ghost use Rattle.engines.specs.declared.network.RoundConf.{RoundConf};
 ghost use Rattle.capture.specs.Capture.{startOf};
@@ -201,6 +202,7 @@ pub struct Noted {
 fn take_position(table: &mut [u64; 576], i: usize, slot: u64, v: Node, l: Payload)
     requires { ⌜ i < 64 ⌝ }
     ensures { λ _. ⌜ now (table .exit) ≡ rowPut 0 i (rowFor slot i v l) (now (table .entry)) ⌝ }
+    ensures { λ _. ⌜ dataLen (l .packet .«proposal_data») ≤ 129 ⌝ }
 {
     let p = l.packet;
     let d = p.proposal_data;

@@ -27,7 +27,7 @@ loop-again c =
       loop .loop .inv .0,
       omega arith,
       λ h. taken-turn _ (loop .before .before .before .args .t2) (loop .loop .i) (omega arith) (loop .loop .inv .2 h)
-          numbers (note .0) (note .1 .0) (note .1 .1),
+          (numbers .0) (numbers .1) (note .0) (note .1 .0) (note .1 .1),
     )
 
 returns : tie.Need-returns Inv-loop μ-loop

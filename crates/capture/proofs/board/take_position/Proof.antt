@@ -5,7 +5,7 @@ use Rattle.capture.proofs.board.take_position.Tie as tie
 
 returns : tie.Need-returns
 unfolding rowPut
-returns c = rw (c .data-text-len .ensures .0)
+returns c = let told = c .data-text-len .ensures in (rw (told .0), rw (← told .0) (told .1))
 
 pub take-position-spec : {M : Type 1} → statement M
 take-position-spec =
