@@ -2,6 +2,7 @@ pub mod Viewing
 pub mod Turning
 pub mod Holding
 pub mod Telling
+pub mod Acting
 pub mod Hearing
 pub mod Shortage
 pub mod Neighbours

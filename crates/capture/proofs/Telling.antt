@@ -107,6 +107,10 @@ module _ (s : Voting) {base : List Payload} {p : Phases} {rests : ℕ} {x : List
         by (inl e) = rw e (o .from i h)
         by (inr e) = rw e (o .from src k)
 
+-- what was asked of the merge, by another name
+pub heard-as : (s : Voting) (i : ℕ) (m : Draft) {k k′ : Held} {a a′ b b′ : Slip} → k ≡ k′ → a ≡ a′ → b ≡ b′ → HeardBy (noOf s) (s .n) i k a b m → HeardBy (noOf s) (s .n) i k′ a′ b′ m
+heard-as s i m e f g h = rw (← e, ← f, ← g) h
+
 -- something new: it is written
 pub told-new : (s : Voting) (t : Told) (i src : ℕ) (x : List ℕ) (m : Slip) (r : Told) (y : List ℕ) → i < 64 → Written (s .n) t i m x r y
     → ((base held : List Payload) → i < atMost64 (s .n) → (src < 64 → src < atMost64 (s .n)) → ShownHeld (s .n) base (t .phases) (t .«can_sleep») x held

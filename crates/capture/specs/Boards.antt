@@ -326,7 +326,7 @@ pub record ToldAll (s : Voting) (targets : ℕ) (hears : List ℕ) (t : Told) (x
   pub kept : Kept x y
   pub news : (base held : List Payload) → Apart (s .n) hears targets → t .«new_info» ≡ 0 → ShownHeld (s .n) base (t .phases) (t .«can_sleep») x held
       → (j : ℕ) → has (r .«new_info») j ≡ has (toldAll s hears held .«new_info») j
-  pub shown : (base held : List Payload) → Apart (s .n) hears targets → ShownHeld (s .n) base (t .phases) (t .«can_sleep») x held
+  pub shown : (base held : List Payload) → Apart (s .n) hears targets → t .«new_info» ≡ 0 → ShownHeld (s .n) base (t .phases) (t .«can_sleep») x held
       → ShownHeld (s .n) base (r .phases) (r .«can_sleep») y (toldAll s hears held .held)
 
 -- ---- states

@@ -1,43 +1,30 @@
+use native.Mathlib.Omega.{arith}
+use Prim.Native.Nat.{_+_, _%_, _<_, _^_}
+use mathlib.Core.Path.{_≡_, refl, _∙_}
+use Rattle.marks.specs.Marks.{countOf}
+use Rattle.marks.specs.Sets.{lowest-lt}
+use Rattle.engines.proofs.Marking.{without, over-less, over-turn, over-none}
+use Rattle.engines.specs.Marked.{overMarks}
+use Rattle.capture.specs.Boards.{lengthBy, sentBy}
+use borrow.Author.Needs.{needs}
 use Rattle.capture.proofs.ce.bytes_of.Statement.{statement}
 use Rattle.capture.proofs.ce.bytes_of.Tie as tie
 
 abbrev Inv-loop : tie.InvT-loop
-Inv-loop flooding p table sum₀ left₀ sum left = ?
+Inv-loop flooding p table sum₀ left₀ sum left =
+    (left < 2 ^ 64)
+    × (overMarks left (λ i s. (s + lengthBy p table i) % 2 ^ 64) sum ≡ overMarks flooding (λ i s. (s + lengthBy p table i) % 2 ^ 64) 0)
 
 abbrev μ-loop : tie.MeasureT-loop
-μ-loop flooding p table sum₀ left₀ sum left = ?
+μ-loop flooding p table sum₀ left₀ sum left = countOf left 64
 
--- src/ce.rt:51:5
-loop-holds : tie.Need-loop-holds Inv-loop μ-loop
-loop-holds c = ?
-
--- src/ce.rt:52:13
-lowest-mark-requires : tie.Need-lowest-mark-requires Inv-loop μ-loop
-lowest-mark-requires c κs = ?
-
--- src/ce.rt:53:47
-text-len-requires : tie.Need-text-len-requires Inv-loop μ-loop
-text-len-requires c κs = ?
-
--- src/ce.rt:53:9
-wrapping-add-u64-requires : tie.Need-wrapping-add-u64-requires Inv-loop μ-loop
-wrapping-add-u64-requires c κs = ?
-
--- src/ce.rt:54:9
-without-mark-requires : tie.Need-without-mark-requires Inv-loop μ-loop
-without-mark-requires c κs = ?
-
--- src/ce.rt:51:5
-loop-less : tie.Need-loop-less Inv-loop μ-loop
-loop-less c = ?
-
--- src/ce.rt:51:5
 loop-again : tie.Need-loop-again Inv-loop μ-loop
-loop-again c = ?
+loop-again c =
+    let w = without _ _ _ (c .before .before .before .before .before .loop .inv .0) (c .before .before .before .before .loop-test .taken) (c .before .before .before .lowest-mark .ensures) (c .without-mark .ensures) in (omega arith, over-turn _ w (rw (c .before .wrapping-add-u64 .ensures, c .before .before .text-len .ensures)) (c .before .before .before .before .before .loop .inv .1))
 
--- src/ce.rt:46:1
 returns : tie.Need-returns Inv-loop μ-loop
-returns c = ?
+unfolding sentBy
+returns c = over-none _ (c .loop-test .left) (c .before .loop .inv .1)
 
 pub bytes-of-spec : {M : Type 1} → statement M
 bytes-of-spec =
@@ -45,11 +32,11 @@ bytes-of-spec =
     (tie.spec
     Inv-loop
     μ-loop
-    loop-holds
-    lowest-mark-requires
-    text-len-requires
-    wrapping-add-u64-requires
-    without-mark-requires
-    loop-less
+    (λ c. (omega arith, refl))
+    (λ c κs. search needs)
+    (λ c κs. lowest-lt _ _ (c .before .before .loop .inv .0) (c .before .loop-test .taken) (c .lowest-mark .ensures))
+    (λ c κs. search needs)
+    (λ c κs. search needs)
+    (λ c. over-less (without _ _ _ (c .before .before .before .before .before .loop .inv .0) (c .before .before .before .before .loop-test .taken) (c .before .before .before .lowest-mark .ensures) (c .without-mark .ensures)))
     loop-again
     returns)

@@ -1,48 +1,29 @@
+use mathlib.Core.Path.{sym, _∙_}
+use borrow.Author.Tests.{not-true, not-false}
+use Rattle.capture.specs.Boards.{lengthBy, slipBy}
+use Rattle.engines.specs.Columns.{cell}
 use borrow.Author.Needs.{needs}
 use Rattle.capture.proofs.ce.text_len.Statement.{statement}
 use Rattle.capture.proofs.ce.text_len.Tie as tie
 
--- src/ce.rt:35:9
-holds-requires : tie.Need-holds-requires
-holds-requires c κs = search needs
-
--- src/ce.rt:36:9
 returns : tie.Need-returns
-returns c = ?
+unfolding lengthBy
+returns c = rw (sym (c .before .holds .ensures) ∙ not-true _ (c .if1 .taken))
 
--- src/ce.rt:38:9
-slip-at-requires : tie.Need-slip-at-requires
-slip-at-requires c κs = search needs
-
--- src/ce.rt:42:50
-add-ce-parts-len : tie.Need-add-ce-parts-len
-add-ce-parts-len c = search needs
-
--- src/ce.rt:42:44
-mul-ce-parts-len : tie.Need-mul-ce-parts-len
-mul-ce-parts-len c = search needs
-
--- src/ce.rt:42:44
-element-copy-out-ce-parts-len : tie.Need-element-copy-out-ce-parts-len
-element-copy-out-ce-parts-len c = search needs
-
--- src/ce.rt:42:5
-ce-parts-len-requires : tie.Need-ce-parts-len-requires
-ce-parts-len-requires c κs = search needs
-
--- src/ce.rt:31:1
 returns-2 : tie.Need-returns-2
-returns-2 c = ?
+unfolding lengthBy slipBy cell
+returns-2 c =
+    rw (c .ce-parts-len .ensures, c .before .before .before .before .slip-at .ensures, sym (c .before .before .before .before .before .before .holds .ensures) ∙ not-false _ (c .before .before .before .before .before .if1 .left))
 
 pub text-len-spec : {M : Type 1} → statement M
 text-len-spec =
     tie.close
     (tie.spec
-    holds-requires
+    (λ c κs. search needs)
     returns
-    slip-at-requires
-    add-ce-parts-len
-    mul-ce-parts-len
-    element-copy-out-ce-parts-len
-    ce-parts-len-requires
+    (λ c κs. search needs)
+    (λ c. search needs)
+    (λ c. search needs)
+    (λ c. search needs)
+    (λ c κs. search needs)
     returns-2)

@@ -5,7 +5,8 @@ use Rattle.capture.proofs.turns.pass.Tie as tie
 
 returns : tie.Need-returns
 unfolding passedCells
-returns c = rw (c .before .before .before .raise3 .ensures, c .before .before .before .before .raise2 .ensures, c .before .before .before .before .before .raise .ensures)
+returns c =
+    rw (c .raise3 .ensures, c .before .before .raise2 .ensures, c .before .before .before .before .raise .ensures)
 
 pub pass-spec : {M : Type 1} → statement M
 pass-spec =
