@@ -1,9 +1,9 @@
 -- Coins and the goal by sets and table, and the slots in which nobody acts, told by board and table. Assumes nothing.
 use Prim.Native.Nat.{ℕ, _+_, _-_, _^_, _≤_, _<_}
-use mathlib.Core.Bool.{Bool, true, false, true≢false, not, _||_, _&&_}
+use mathlib.Core.Bool.{Bool, true, false, true≢false, not, _&&_}
 use mathlib.Core.List.{List}
 use mathlib.Core.Path.{_≡_, refl, sym, ap, _∙_}
-use lib.Dec.{eqb, leb, ltb}
+use lib.Dec.{eqb}
 use lib.ListN.{length, getD}
 use native.Mathlib.Omega.{arith}
 use borrow.Author.Tests.{eqb-true, lt-ltb, le-ltb, le-leb, lt-leb}
@@ -11,7 +11,6 @@ use Rattle.loops.specs.Pick.{either}
 use Rattle.loops.specs.Upto.{upto-same}
 use Rattle.marks.specs.Marks.{has, allOf, countOf}
 use Rattle.marks.specs.Laws.{has-none}
-use Rattle.merges.specs.Merging.{noPayload, canSleepOf, networkGoalOf}
 use Rattle.engines.specs.Clamp.{atMost64}
 use Rattle.engines.specs.Marked.{overMarks}
 use Rattle.engines.specs.Columns.{cell}
@@ -25,7 +24,8 @@ use Rattle.engines.proofs.Marking.{Without}
 use Rattle.engines.proofs.Places.{view-get, view-length}
 use Rattle.capture.specs.Plan.{timedOut, tossed1, tossAt, coinsOf, targetsOf, Captured, captureAt}
 use Rattle.capture.specs.Idle.{Waits, Idle}
-use Rattle.capture.specs.Boards.{lastAt, stateBy, nodeBy, nodesBy, seenBy, Shown, Goes, waitingSince, coinsBy, PlannedBy, goalBy}
+use Rattle.capture.specs.Boards.{lastAt, stateBy, nodeBy, nodesBy, seenBy, Shown, Goes}
+use Rattle.capture.specs.Boards.{waitingSince, coinsBy, PlannedBy, goalBy}
 use Rattle.capture.specs.declared.plan.Coins.{Coins}
 use Rattle.capture.specs.declared.plan.Reception.{Reception}
 use Rattle.capture.specs.declared.board.Phases.{Phases}
@@ -38,7 +38,7 @@ use Rattle.capture.proofs.Holding.{all-same, goal-is}
 
 -- ---- coins
 
--- Of a position its coin needs the last progress alone, so coins by the table are those of nodes with the same last progress.
+-- A coin needs the last progress of its position alone, so the table gives the coins of nodes with that progress.
 pub coins-same : (ws : List ℕ) (slot timeout : ℕ) (x : List ℕ) (nodes : List Node) (listening : ℕ) (d : Draw)
     → ((i : ℕ) → has listening i ≡ true → getD nodes i noNode .«last_progress_slot» ≡ cell x lastAt i)
     → coinsBy ws slot timeout x listening d ≡ coinsOf ws slot timeout nodes listening d
@@ -106,7 +106,8 @@ module _ (n : ℕ) (p : Phases) where
 
 -- No coin is due in so many slots for the listening positions that are not left.
 pub record Waited (listening : ℕ) (x : List ℕ) (slot timeout wait left : ℕ) : Type 0 where
-  pub early : 0 < wait → (i : ℕ) → has listening i ≡ true → has left i ≡ false → slot - cell x lastAt i + wait ≤ timeout
+  pub early : 0 < wait → (i : ℕ) → has listening i ≡ true → has left i ≡ false
+      → slot - cell x lastAt i + wait ≤ timeout
 
 module _ {listening : ℕ} {x : List ℕ} {slot timeout : ℕ} where
   pub waited-none : {wait : ℕ} → Waited listening x slot timeout wait listening
@@ -133,19 +134,21 @@ module _ {listening : ℕ} {x : List ℕ} {slot timeout : ℕ} where
 -- ---- what board and table show
 
 module _ {n : ℕ} {base : CeState} {b : Board} {x : List ℕ} {c : CeState} (o : Shown n base b x c) where
+  abbrev shows : ℕ → Node → Node
+  shows = nodeBy (b .states) (b .«goal_reached») x
+
   pub nodes-long : length (c .network .nodes) ≡ 64
   unfolding seenBy nodesBy
   nodes-long =
       ap (λ (s : CeState). length (s .network .nodes)) (sym (o .sees))
-      ∙ view-length noNode (base .network .nodes) (atMost64 n) (omega (arith, o .whole)) (nodeBy (b .states) (b .«goal_reached») x)
-      ∙ o .whole
+      ∙ view-length noNode (base .network .nodes) (atMost64 n) (omega (arith, o .whole)) shows ∙ o .whole
 
   pub node-at : (i : ℕ) → i < atMost64 n
-      → getD (c .network .nodes) i noNode ≡ nodeBy (b .states) (b .«goal_reached») x i (getD (base .network .nodes) i noNode)
+      → getD (c .network .nodes) i noNode ≡ shows i (getD (base .network .nodes) i noNode)
   unfolding seenBy nodesBy
   node-at i h =
       ap (λ (s : CeState). getD (s .network .nodes) i noNode) (sym (o .sees))
-      ∙ view-get noNode (base .network .nodes) (atMost64 n) (omega (arith, o .whole)) (nodeBy (b .states) (b .«goal_reached») x) i h
+      ∙ view-get noNode (base .network .nodes) (atMost64 n) (omega (arith, o .whole)) shows i h
 
   pub state-at : (i : ℕ) → i < atMost64 n → getD (c .network .nodes) i noNode .state ≡ stateBy (b .states) i
   unfolding nodeBy

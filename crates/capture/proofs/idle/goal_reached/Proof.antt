@@ -8,7 +8,8 @@ use Rattle.capture.proofs.idle.goal_reached.Tie as tie
 returns-3 : tie.Need-returns-3
 returns-3 c =
     let early = c .before .before in
-    goal-met _ _ (early .before .if1 .left) (omega (arith, early .if2 .left)) (sym (c .before .all-marked .ensures) ∙ c .if3 .taken)
+    goal-met _ _ (early .before .if1 .left) (omega (arith, early .if2 .left))
+    (sym (c .before .all-marked .ensures) ∙ c .if3 .taken)
 
 returns-4 : tie.Need-returns-4
 returns-4 c =

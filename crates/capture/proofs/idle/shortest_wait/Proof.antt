@@ -18,15 +18,20 @@ abbrev μ-loop : tie.MeasureT-loop
 less : tie.Need-loop-less Inv-loop μ-loop
 less c =
     let chosen = c .before .before .before in
-    over-less (without _ _ _ (chosen .before .before .loop .inv .0) (chosen .before .loop-test .taken) (chosen .lowest-mark .ensures) (c .without-mark .ensures))
+    let test = chosen .before in
+    let inv = test .before .loop .inv in
+    let gone = c .without-mark .ensures in
+    over-less (without _ _ _ (inv .0) (test .loop-test .taken) (chosen .lowest-mark .ensures) gone)
 
 again : tie.Need-loop-again Inv-loop μ-loop
 unfolding cell
 again c =
     let chosen = c .before .before .before in
-    let inv = chosen .before .before .loop .inv in
+    let test = chosen .before in
+    let inv = test .before .loop .inv in
     let due = c .before .until-due .ensures in
-    let w = without _ _ _ (inv .0) (chosen .before .loop-test .taken) (chosen .lowest-mark .ensures) (c .without-mark .ensures) in
+    let gone = c .without-mark .ensures in
+    let w = without _ _ _ (inv .0) (test .loop-test .taken) (chosen .lowest-mark .ensures) gone in
     (omega arith, omega (arith, inv .1, due .0), waited-more (inv .2) (due .0) (due .1) w)
 
 pub shortest-wait-spec : {M : Type 1} → statement M

@@ -19,7 +19,8 @@ tossing words table slot timeout i c = tossed1 words slot timeout (waitingSince 
 
 abbrev Inv-loop : tie.InvT-loop
 Inv-loop words table slot timeout listening c₀ left₀ c left =
-    (left < 2 ^ 64) × (overMarks left (tossing words table slot timeout) c ≡ overMarks listening (tossing words table slot timeout) c₀)
+    (left < 2 ^ 64)
+    × (overMarks left (tossing words table slot timeout) c ≡ overMarks listening (tossing words table slot timeout) c₀)
 
 abbrev μ-loop : tie.MeasureT-loop
 μ-loop words table slot timeout listening c₀ left₀ c left = countOf left 64
@@ -28,14 +29,19 @@ again : tie.Need-loop-again Inv-loop μ-loop
 unfolding cell
 again c =
     let chosen = c .before .before .before in
-    let inv = chosen .before .before .loop .inv in
-    let w = without _ _ _ (inv .0) (chosen .before .loop-test .taken) (chosen .lowest-mark .ensures) (c .without-mark .ensures) in
+    let test = chosen .before in
+    let inv = test .before .loop .inv in
+    let gone = c .without-mark .ensures in
+    let w = without _ _ _ (inv .0) (test .loop-test .taken) (chosen .lowest-mark .ensures) gone in
     (omega arith, over-turn _ w (c .before .toss .ensures) (inv .1))
 
 less : tie.Need-loop-less Inv-loop μ-loop
 less c =
     let chosen = c .before .before .before in
-    over-less (without _ _ _ (chosen .before .before .loop .inv .0) (chosen .before .loop-test .taken) (chosen .lowest-mark .ensures) (c .without-mark .ensures))
+    let test = chosen .before in
+    let inv = test .before .loop .inv in
+    let gone = c .without-mark .ensures in
+    over-less (without _ _ _ (inv .0) (test .loop-test .taken) (chosen .lowest-mark .ensures) gone)
 
 returns : tie.Need-returns Inv-loop μ-loop
 unfolding coinsBy
