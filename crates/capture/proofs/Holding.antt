@@ -48,6 +48,12 @@ packet Empty = false
 packet Unreadable = false
 packet Packet = true
 
+-- two tests that say the same of each number below k
+pub all-same : (f g : ℕ → Bool) (k : ℕ) → ((i : ℕ) → i < k → f i ≡ g i) → allOf k f ≡ allOf k g
+unfolding allOf
+all-same f g zero e = refl
+all-same f g (suc k) e = rw (all-same f g k (λ i h. e i (omega arith)), e k (omega arith))
+
 module _ {n : ℕ} {base : List Payload} {p : Phases} {rests : ℕ} {x : List ℕ} {held : List Payload} (o : ShownHeld n base p rests x held) where
   pub held-length : length held ≡ 64
   unfolding payloadsBy
@@ -159,11 +165,6 @@ module _ {n : ℕ} {base : List Payload} {p : Phases} {rests : ℕ} {x : List �
       by false true a = refl
       by false false true = refl
       by false false false = refl
-
-  all-same : (f g : ℕ → Bool) (k : ℕ) → ((i : ℕ) → i < k → f i ≡ g i) → allOf k f ≡ allOf k g
-  unfolding allOf
-  all-same f g zero e = refl
-  all-same f g (suc k) e = rw (all-same f g k (λ i h. e i (omega arith)), e k (omega arith))
 
   pub goal-is : goalBy n p ≡ networkGoalOf n held
   unfolding goalBy networkGoalOf allHold

@@ -260,7 +260,3 @@ module _ (ws : List ℕ) (conf : RoundConf) where
   -- a step by a stretch
   pub stepped-idle : {left k : ℕ} {c t : CeState} → 0 < k → k ≤ left → Idle conf k c → t ≡ idled conf k c → Stepped networkIn over (slotOf ws conf) conf left c (left - k) t
   stepped-idle = stepped-leap networkIn over (slotOf ws conf) conf (Idle conf) (idled conf) idle-leaps (λ k c q. omega (arith, q .rows))
-
--- who waits for longer waits for less
-pub waits-less : {slot timeout a b : ℕ} {v : Node} → b ≤ a → Waits slot timeout a v → Waits slot timeout b v
-waits-less h w = record { early = λ l. let p = w .early l in omega arith }

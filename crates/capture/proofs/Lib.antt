@@ -11,3 +11,4 @@ pub mod Idling
 pub mod PlanCursor
 pub mod Targets
 pub mod Unpacking
+pub mod Resting

@@ -1,43 +1,31 @@
+use native.Mathlib.Omega.{arith}
+use mathlib.Core.Path.{sym, _∙_}
+use Rattle.capture.proofs.Resting.{goal-none, goal-beyond, goal-met, goal-left}
 use borrow.Author.Needs.{needs}
 use Rattle.capture.proofs.idle.goal_reached.Statement.{statement}
 use Rattle.capture.proofs.idle.goal_reached.Tie as tie
 
--- src/idle.rt:55:9
-returns : tie.Need-returns
-returns c = ?
-
--- src/idle.rt:58:9
-returns-2 : tie.Need-returns-2
-returns-2 c = ?
-
--- src/idle.rt:60:8
-all-marked-requires : tie.Need-all-marked-requires
-all-marked-requires c κs = search needs
-
--- src/idle.rt:61:9
 returns-3 : tie.Need-returns-3
-returns-3 c = ?
+returns-3 c =
+    let early = c .before .before in
+    goal-met _ _ (early .before .if1 .left) (omega (arith, early .if2 .left))
+    (sym (c .before .all-marked .ensures) ∙ c .if3 .taken)
 
--- src/idle.rt:63:22
-difference-requires : tie.Need-difference-requires
-difference-requires c κs = search needs
-
--- src/idle.rt:63:5
-all-marked-requires-2 : tie.Need-all-marked-requires-2
-all-marked-requires-2 c κs = search needs
-
--- src/idle.rt:51:1
 returns-4 : tie.Need-returns-4
-returns-4 c = ?
+returns-4 c =
+    let early = c .before .before .before .before in
+    goal-left _ _ _ (early .before .if1 .left) (omega (arith, early .if2 .left))
+    (sym (c .before .before .before .all-marked .ensures) ∙ c .before .before .if3 .left)
+    (c .before .difference .ensures) (c .all-marked2 .ensures)
 
 pub goal-reached-spec : {M : Type 1} → statement M
 goal-reached-spec =
     tie.close
     (tie.spec
-    returns
-    returns-2
-    all-marked-requires
+    (λ c. goal-none _ _ (c .if1 .taken))
+    (λ c. goal-beyond _ _ (c .if2 .taken))
+    (λ c κs. search needs)
     returns-3
-    difference-requires
-    all-marked-requires-2
+    (λ c κs. search needs)
+    (λ c κs. search needs)
     returns-4)

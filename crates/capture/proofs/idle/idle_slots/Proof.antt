@@ -1,53 +1,46 @@
+use mathlib.Core.Path.{sym, _∙_}
+use native.Mathlib.Omega.{arith}
+use Rattle.capture.proofs.Resting.{SmallBoard, rests-idle}
 use borrow.Author.Needs.{needs}
 use Rattle.capture.proofs.idle.idle_slots.Statement.{statement}
 use Rattle.capture.proofs.idle.idle_slots.Tie as tie
 
--- src/idle.rt:72:9
-returns : tie.Need-returns
-returns c = ?
+-- what the type of a board says of it, read at the entry: further on `search` meets too many records to reach it
+small : (s : tie.Start) → SmallBoard (s .args .b)
+small s = record { sent = search needs; timeouts = search needs; attempts = search needs; success = search needs }
 
--- src/idle.rt:75:9
-returns-2 : tie.Need-returns-2
-returns-2 c = ?
-
--- src/idle.rt:78:9
-returns-3 : tie.Need-returns-3
-returns-3 c = ?
-
--- src/idle.rt:81:8
-goal-reached-requires : tie.Need-goal-reached-requires
-goal-reached-requires c κs = search needs
-
--- src/idle.rt:82:9
-returns-4 : tie.Need-returns-4
-returns-4 c = ?
-
--- src/idle.rt:84:37
-sub-smaller : tie.Need-sub-smaller
-sub-smaller c = search needs
-
--- src/idle.rt:84:9
-smaller-requires : tie.Need-smaller-requires
-smaller-requires c κs = search needs
-
--- src/idle.rt:85:5
-shortest-wait-requires : tie.Need-shortest-wait-requires
-shortest-wait-requires c κs = search needs
-
--- src/idle.rt:67:1
 returns-5 : tie.Need-returns-5
-returns-5 c = ?
+returns-5 c =
+    let tested = c .before .before .before in
+    let awake = tested .before .before .before in
+    let silent = awake .before .before in
+    let due = silent .before .before in
+    let wait = c .shortest-wait .ensures in
+    let most = c .before .smaller .ensures in
+    λ conf base state links g o. (
+      omega (arith, wait .0, most),
+      λ p. rests-idle conf base state links _ _ _ _ g o
+          (record {
+            small = small (due .before .before);
+            going = due .before .before .pre;
+            rows = omega (arith, wait .0, most, due .if1 .left);
+            goal = sym (tested .before .goal-reached .ensures) ∙ tested .if4 .left;
+            silent = silent .if2 .left;
+            awake = awake .if3 .left;
+            waits = wait .1 p;
+          }),
+    )
 
 pub idle-slots-spec : {M : Type 1} → statement M
 idle-slots-spec =
     tie.close
     (tie.spec
-    returns
-    returns-2
-    returns-3
-    goal-reached-requires
-    returns-4
-    sub-smaller
-    smaller-requires
-    shortest-wait-requires
+    (λ c conf base state links g o. (omega arith, λ p. absurd (omega arith)))
+    (λ c conf base state links g o. (omega arith, λ p. absurd (omega arith)))
+    (λ c conf base state links g o. (omega arith, λ p. absurd (omega arith)))
+    (λ c κs. search needs)
+    (λ c conf base state links g o. (omega arith, λ p. absurd (omega arith)))
+    (λ c. search needs)
+    (λ c κs. search needs)
+    (λ c κs. search needs)
     returns-5)

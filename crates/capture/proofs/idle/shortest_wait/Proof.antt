@@ -1,51 +1,38 @@
+use native.Mathlib.Omega.{arith}
+use Prim.Native.Nat.{_≤_, _<_, _^_}
+use Rattle.marks.specs.Marks.{countOf}
+use Rattle.engines.specs.Columns.{cell}
+use Rattle.engines.proofs.Marking.{without, over-less}
+use Rattle.capture.proofs.Resting.{Waited, waited-none, waited-more, waited-all}
+use borrow.Author.Needs.{needs}
 use Rattle.capture.proofs.idle.shortest_wait.Statement.{statement}
 use Rattle.capture.proofs.idle.shortest_wait.Tie as tie
 
 abbrev Inv-loop : tie.InvT-loop
-Inv-loop listening table slot timeout most wait₀ left₀ wait left = ?
+Inv-loop listening table slot timeout most wait₀ left₀ wait left =
+    (left < 2 ^ 64) × (wait ≤ most) × Waited listening table slot timeout wait left
 
 abbrev μ-loop : tie.MeasureT-loop
-μ-loop listening table slot timeout most wait₀ left₀ wait left = ?
+μ-loop listening table slot timeout most wait₀ left₀ wait left = countOf left 64
 
--- src/idle.rt:42:5
-loop-holds : tie.Need-loop-holds Inv-loop μ-loop
-loop-holds c = ?
+less : tie.Need-loop-less Inv-loop μ-loop
+less c =
+    let chosen = c .before .before .before in
+    let test = chosen .before in
+    let inv = test .before .loop .inv in
+    let gone = c .without-mark .ensures in
+    over-less (without _ _ _ (inv .0) (test .loop-test .taken) (chosen .lowest-mark .ensures) gone)
 
--- src/idle.rt:43:13
-lowest-mark-requires : tie.Need-lowest-mark-requires Inv-loop μ-loop
-lowest-mark-requires c κs = ?
-
--- src/idle.rt:44:32
-add-until-due : tie.Need-add-until-due Inv-loop μ-loop
-add-until-due c = ?
-
--- src/idle.rt:44:26
-mul-until-due : tie.Need-mul-until-due Inv-loop μ-loop
-mul-until-due c = ?
-
--- src/idle.rt:44:26
-element-copy-out-until-due : tie.Need-element-copy-out-until-due Inv-loop μ-loop
-element-copy-out-until-due c = ?
-
--- src/idle.rt:44:9
-until-due-requires : tie.Need-until-due-requires Inv-loop μ-loop
-until-due-requires c κs = ?
-
--- src/idle.rt:45:9
-without-mark-requires : tie.Need-without-mark-requires Inv-loop μ-loop
-without-mark-requires c κs = ?
-
--- src/idle.rt:42:5
-loop-less : tie.Need-loop-less Inv-loop μ-loop
-loop-less c = ?
-
--- src/idle.rt:42:5
-loop-again : tie.Need-loop-again Inv-loop μ-loop
-loop-again c = ?
-
--- src/idle.rt:37:1
-returns : tie.Need-returns Inv-loop μ-loop
-returns c = ?
+again : tie.Need-loop-again Inv-loop μ-loop
+unfolding cell
+again c =
+    let chosen = c .before .before .before in
+    let test = chosen .before in
+    let inv = test .before .loop .inv in
+    let due = c .before .until-due .ensures in
+    let gone = c .without-mark .ensures in
+    let w = without _ _ _ (inv .0) (test .loop-test .taken) (chosen .lowest-mark .ensures) gone in
+    (omega arith, omega (arith, inv .1, due .0), waited-more (inv .2) (due .0) (due .1) w)
 
 pub shortest-wait-spec : {M : Type 1} → statement M
 shortest-wait-spec =
@@ -53,13 +40,13 @@ shortest-wait-spec =
     (tie.spec
     Inv-loop
     μ-loop
-    loop-holds
-    lowest-mark-requires
-    add-until-due
-    mul-until-due
-    element-copy-out-until-due
-    until-due-requires
-    without-mark-requires
-    loop-less
-    loop-again
-    returns)
+    (λ c. (omega arith, omega arith, waited-none))
+    (λ c κs. search needs)
+    (λ c. search needs)
+    (λ c. search needs)
+    (λ c. search needs)
+    (λ c κs. search needs)
+    (λ c κs. search needs)
+    less
+    again
+    (λ c. (c .before .loop .inv .1, waited-all (c .before .loop .inv .2) (c .loop-test .left))))
