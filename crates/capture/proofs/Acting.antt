@@ -15,7 +15,7 @@ use Rattle.marks.specs.Sets.{and-true, has-marks}
 use Rattle.merges.specs.Merging.{noPayload, networkGoalOf}
 use Rattle.merges.specs.declared.merging.Payload.{Payload}
 use Rattle.engines.specs.Clamp.{atMost64}
-use Rattle.engines.specs.Columns.{cell}
+use Rattle.engines.specs.Columns.{cell, storedAs}
 use Rattle.engines.specs.Nodes.{inc, noNode, isListen, isFlood, setsOf}
 use Rattle.engines.specs.Network.{ticking}
 use Rattle.engines.specs.Rows.{nextRow}
@@ -25,6 +25,7 @@ use Rattle.engines.specs.declared.node.NodeState.{NodeState}
 use Rattle.engines.specs.declared.node.NodeState.the-variants.{Listen, Flood, Sleep}
 use Rattle.engines.specs.declared.node.StateSets.{StateSets}
 use Rattle.engines.specs.declared.network.RoundConf.{RoundConf}
+use Rattle.engines.proofs.Cells.{cells-apart, cells-length}
 use Rattle.engines.proofs.Places.{view-get, view-same, view-length}
 use Rattle.capture.specs.Plan.{Plan, targetsOf, planOf, Sender, Hears}
 use Rattle.capture.specs.Turns.{News, turnedAll, countedSlot}
@@ -145,3 +146,134 @@ module _ (conf : RoundConf) {base : CeState} {b : Board} {x : List ℕ} (o : Sho
 
   pub goal-seen : goalBy n (b .phases) ≡ networkGoalOf n (seenBy n base b x .held)
   goal-seen = goal-is (o .held)
+
+  -- ---- plan, merges, states
+
+  module _ (ws : List ℕ) (p : SlotPlan) (hears : List ℕ) (planned : PlannedBy ws (conf .graph .adj) (fixedOf conf) (b .states) (b .slot) (b .draw) x (replicate 64 64) p hears) where
+    abbrev c : CeState
+    c = seenBy n base b x
+
+    plan-is : planBy p hears ≡ planFor ws conf c
+    unfolding seenBy
+    plan-is =
+        planned .plan (nodes o) refl (λ i q. last-at o i (listens-in o i q))
+        ∙ ap (λ (s : StateSets). planOf ws (conf .settings .«loss_rate») (conf .graph .adj) (b .slot) (conf .settings .«listen_timeout») (nodes o) s (b .draw)) (states-are o)
+
+    abbrev plan-hears : Plan
+    plan-hears = planOf ws (conf .settings .«loss_rate») (conf .graph .adj) (b .slot) (conf .settings .«listen_timeout») (nodes o) (b .states) (b .draw)
+
+    planned-as : planBy p hears ≡ plan-hears
+    planned-as = planned .plan (nodes o) refl (λ i q. last-at o i (listens-in o i q))
+
+    hears-are : hears ≡ plan-hears .hears
+    hears-are = ap (λ (z : Plan). z .hears) planned-as
+
+    targets-are : p .targets ≡ targetsOf (b .states .listening) (plan-hears .recovering)
+    targets-are = planned .targets ∙ ap (λ (z : Plan). targetsOf (b .states .listening) (z .recovering)) planned-as
+
+    -- a target listens
+    target-listens : (i : ℕ) → has (p .targets) i ≡ true → has (b .states .listening) i ≡ true
+    unfolding targetsOf
+    target-listens i q =
+        let e = sym (has-marks 64 (λ t. has (b .states .listening) t && not (has (plan-hears .recovering) t)) i) ∙ ap (λ (m : ℕ). has m i) (sym targets-are) ∙ q in
+        and-true (has (b .states .listening) i) (not (has (plan-hears .recovering) i)) (and-true (ltb i 64) _ e .1) .0
+
+    -- whom a target hears floods
+    sender-floods : (i : ℕ) → i < 64 → getD hears i 0 < 64 → has (b .states .flooding) (getD hears i 0) ≡ true
+    sender-floods i h k = by (plan-heard ws (conf .settings .«loss_rate») (conf .graph .adj) (b .slot) (conf .settings .«listen_timeout») (nodes o) (b .states) (b .draw) i h)
+      where
+        same : getD hears i 0 ≡ getD (plan-hears .hears) i 0
+        same = ap (λ (l : List ℕ). getD l i 0) hears-are
+
+        by : Hears (conf .graph .adj) (b .states .flooding) i (getD (plan-hears .hears) i 0) → has (b .states .flooding) (getD hears i 0) ≡ true
+        by (inl e) = absurd (omega (arith, same, e))
+        by (inr s) = rw same (s .floods)
+
+    pub apart : Apart n hears (p .targets)
+    apart =
+        record {
+          position = λ i q. listens-in o i (target-listens i q);
+          sender = λ i q k. floods-in o (getD hears i 0) (sender-floods i (let h = listens-in o i (target-listens i q) in omega arith) k);
+          silent = λ i q k. quiet (getD hears i 0) (has (p .targets) (getD hears i 0)) refl (sender-floods i (let h = listens-in o i (target-listens i q) in omega arith) k);
+          others = λ i h q. le-ltb (getD hears i 0) 64 (nobody i h q);
+        }
+      where
+        quiet : (j : ℕ) (t : Bool) → has (p .targets) j ≡ t → has (b .states .flooding) j ≡ true → t ≡ false
+        quiet j true e f = sym (target-listens j e) ∙ not-both o j f
+        quiet j false e f = refl
+
+        nobody : (i : ℕ) → i < 64 → has (p .targets) i ≡ false → 64 ≤ getD hears i 0
+        nobody i h q =
+            let e = plan-others ws (conf .settings .«loss_rate») (conf .graph .adj) (b .slot) (conf .settings .«listen_timeout») (nodes o) (b .states) (b .draw) i h
+            (sym (ap (λ (m : ℕ). has m i) targets-are) ∙ q) in
+            let same = ap (λ (l : List ℕ). getD l i 0) hears-are in
+            omega (arith, same, e)
+
+    module _ (sent : ℕ) (es : sent ≡ sentBy (b .states .flooding) (b .phases) x) (t₀ t : Told) (e₁ : t₀ .phases ≡ b .phases) (e₂ : t₀ .«can_sleep» ≡ b .«can_sleep») (e₃ : t₀ .«new_info» ≡ 0)
+        (y : List ℕ) (told : ToldAll (votingOf conf) (p .targets) hears t₀ x t y) (r : Board) (z : List ℕ) (turn : TurnedBy b (conf .interval) p sent t y r z) where
+      abbrev merges : SlotMerges
+      merges = toldAll (votingOf conf) hears (c .held)
+
+      start : ShownHeld n (base .held) (t₀ .phases) (t₀ .«can_sleep») x (c .held)
+      start = rw (e₁, e₂) (o .held)
+
+      after : ShownHeld n (base .held) (t .phases) (t .«can_sleep») y (merges .held)
+      after = told .shown (base .held) (c .held) apart e₃ start
+
+      -- the merges leave counts and last progress
+      nodes-same : nodesBy n (base .network .nodes) (b .states) (b .«goal_reached») y ≡ nodes o
+      unfolding nodesBy nodeBy cell
+      nodes-same =
+          view-same noNode (base .network .nodes) (atMost64 n) (omega (arith, o .whole)) (nodeBy (b .states) (b .«goal_reached») y) (nodeBy (b .states) (b .«goal_reached») x)
+          (λ i h. rw (told .kept (0 + i) (omega arith), told .kept (64 + i) (omega arith), told .kept (128 + i) (omega arith), told .kept (192 + i) (omega arith)))
+
+      abbrev news : News
+      news = newsOf (planBy p hears) merges
+
+      new : (i : ℕ) → has (t .«new_info») i ≡ has (merges .«new_info») i
+      new = told .news (base .held) (c .held) apart e₃ start
+
+      progress : (i : ℕ) → has (turn .progressed) i ≡ (has (p .recovering) i || has (merges .«new_info») i)
+      progress i = turn .marks i ∙ ap (λ (q : Bool). has (p .recovering) i || q) (new i)
+
+      rest : (i : ℕ) → i < atMost64 n → has (t .«can_sleep») i ≡ has (merges .«can_sleep») i
+      rest i h = after .resting i h ∙ sym (told-rests (votingOf conf) hears (c .held) (held-length (o .held)) i h)
+
+      reached : (i : ℕ) → i < atMost64 n → has (r .«goal_reached») i ≡ either (has (merges .«new_info») i) (has (merges .«goal_reached») i) (has (b .«goal_reached») i)
+      reached i h =
+          turn .goal i ∙ rw (new i, decided-at after i h)
+          (ap (λ (q : Bool). either (has (merges .«new_info») i) q (has (b .«goal_reached») i)) (sym (told-goal (votingOf conf) hears (c .held) (held-length (o .held)) i h)))
+
+      turned : nodesBy n (base .network .nodes) (r .states) (r .«goal_reached») z ≡ turnedAll n (b .slot) news (nodes o)
+      turned =
+          ap (nodesBy n (base .network .nodes) (r .states) (r .«goal_reached»)) (turn .table)
+          ∙ nodes-turned n (b .states) (turn .progressed) (t .«can_sleep») (r .states) (o .split) (turn .states) (b .slot) (b .«goal_reached») (r .«goal_reached») y (after .table) news progress rest reached (base .network .nodes) (o .whole)
+          ∙ ap (turnedAll n (b .slot) news) nodes-same
+
+      bytes : sent ≡ sentOf (setsOf n (nodes o) .flooding) (c .held)
+      bytes = es ∙ sent-is (o .held) (b .states .flooding) (floods-in o) ∙ ap (λ (s : StateSets). sentOf (s .flooding) (c .held)) (states-are o)
+
+      z-long : length z ≡ 576
+      unfolding storedAs
+      z-long = ap length (turn .table) ∙ cells-length 0 (λ v. b .slot) (turn .progressed) y ∙ after .table
+
+      z-kept : (q : ℕ) → 256 ≤ q → getD z q 0 ≡ getD y q 0
+      unfolding storedAs
+      z-kept q h = ap (λ (l : List ℕ). getD l q 0) (turn .table) ∙ cells-apart 0 (λ v. b .slot) (turn .progressed) y q (λ j l e. omega arith)
+
+      held-then : ShownHeld n (base .held) (r .phases) (r .«can_sleep») z (merges .held)
+      held-then = rw (turn .phases, turn .rests) (held-kept after z z-long z-kept)
+
+      shown-as : Shown n base r z (applied conf c (planBy p hears) merges)
+      unfolding seenBy
+      shown-as =
+          record {
+            whole = o .whole;
+            split = split-next n (b .states) (turn .progressed) (t .«can_sleep») (r .states) (o .split) (turn .states);
+            held = held-then;
+            sees = rw (turned, held-then .sees, turn .metrics hears, turn .slot, turn .row, turn .bytes, turn .draw, turn .going, bytes);
+          }
+
+      pub shown-acted : Shown n base r z (acted ws conf c)
+      unfolding acted
+      shown-acted = subst (λ (q : Plan). Shown n base r z (applied conf c q (toldAll (votingOf conf) (q .hears) (c .held)))) plan-is shown-as

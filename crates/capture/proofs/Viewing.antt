@@ -24,7 +24,7 @@ use Rattle.engines.specs.declared.node.Node.{Node}
 use Rattle.engines.specs.declared.node.StateSets.{StateSets}
 use Rattle.engines.specs.declared.node.NodeState.{NodeState}
 use Rattle.engines.specs.declared.node.NodeState.the-variants.{Listen, Flood, Sleep}
-use Rattle.engines.proofs.Cells.{cells-own, cells-other, cells-length}
+use Rattle.engines.proofs.Cells.{cells-own, cells-other, cells-apart, cells-length}
 use Rattle.engines.proofs.Places.{view-get, view-step, view-same, view-length}
 use Rattle.capture.specs.Boards.{lastAt, listenAt, floodAt, sleepAt, termAt, lenAt, marksAt, fromAt, dataAt, stateBy, Split, nodeBy, nodesBy, holdsBy, phaseBy, slipBy, dataIn, payloadBy, payloadsBy, ShownHeld, passedCells}
 use Rattle.capture.specs.declared.board.Phases.{Phases}
@@ -122,13 +122,10 @@ module _ (s : StateSets) (k : ℕ) (x : List ℕ) (long : length x ≡ 576) wher
 
   -- the numbers behind the counts are as they were
   pub passed-rest : (q : ℕ) → 256 ≤ q → getD (passedCells s k x) q 0 ≡ getD x q 0
-  unfolding cell
+  unfolding passedCells raisedBy
   passed-rest q h =
-      ap (λ (p : ℕ). getD (passedCells s k x) p 0) (plain q) ∙ passed-other q 0 (omega arith) (λ j l e. omega arith) (λ j l e. omega arith) (λ j l e. omega arith)
-      ∙ ap (λ (p : ℕ). getD x p 0) (sym (plain q))
-    where
-      plain : (q : ℕ) → q ≡ q + 0
-      plain q = omega arith
+      cells-apart sleepAt (λ v. add64 v k) (s .sleeping) two q (λ j l e. omega arith) ∙ cells-apart floodAt (λ v. add64 v k) (s .flooding) one q (λ j l e. omega arith)
+      ∙ cells-apart listenAt (λ v. add64 v k) (s .listening) x q (λ j l e. omega arith)
 
 -- a position whose state stays, told by the tests of its state
 pass-told : (k : ℕ) (t : NodeState) (last : ℕ) (goal : Bool) (p a b c : ℕ)

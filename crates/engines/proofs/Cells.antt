@@ -24,8 +24,8 @@ column-length : (x : List ℕ) (k : ℕ) → k + 64 ≤ length x → length (col
 column-length x k h = length-take-le 64 (drop k x) (omega (arith, length-drop k x))
 
 module _ (k : ℕ) (f : ℕ → ℕ) (m : ℕ) (x : List ℕ) where
-  changed : ℕ → (s : List ℕ) (i : ℕ) → i < 64 → column (cellBy k f i s) k ≡ place 0 (λ j. f) i (column s k)
-  changed z s i h =
+  changed : (s : List ℕ) (i : ℕ) → i < 64 → column (cellBy k f i s) k ≡ place 0 (λ j. f) i (column s k)
+  changed s i h =
       ap (take 64) (drop-set-add k s i (f (getD s (k + i) 0))) ∙ take-set-lt 64 (drop k s) i (f (getD s (k + i) 0)) h
       ∙ ap (λ (v : ℕ). set (column s k) i (f v)) (sym (column-get s k i h))
 
@@ -34,14 +34,17 @@ module _ (k : ℕ) (f : ℕ → ℕ) (m : ℕ) (x : List ℕ) where
   unfolding cell
   cells-own i h long =
       sym (column-get (overMarks m (cellBy k f) x) k i h)
-      ∙ ap (λ (l : List ℕ). getD l i 0) (over-through (λ s. column s k) (cellBy k f) (place 0 (λ j. f)) (λ j b s. changed 0 s j b) m x)
+      ∙ ap (λ (l : List ℕ). getD l i 0) (over-through (λ s. column s k) (cellBy k f) (place 0 (λ j. f)) (λ j b s. changed s j b) m x)
       ∙ over-get 0 (λ j. f) m (column x k) i (column-length x k long) h
       ∙ ap (λ (v : ℕ). either (has m i) (f v) v) (column-get x k i h)
 
-  -- and no number of another column does
+  -- and no number elsewhere does
+  pub cells-apart : (q : ℕ) → ((j : ℕ) → j < 64 → q ≡ k + j → ⊥) → getD (overMarks m (cellBy k f) x) q 0 ≡ getD x q 0
+  cells-apart q apart = over-keeps (λ s. getD s q 0) (cellBy k f) (λ j b s. getD-set-other s (k + j) q (f (getD s (k + j) 0)) 0 (apart j b)) m x
+
   pub cells-other : (p i : ℕ) → i < 64 → ((j : ℕ) → j < 64 → p + i ≡ k + j → ⊥) → cell (overMarks m (cellBy k f) x) p i ≡ cell x p i
   unfolding cell
-  cells-other p i h apart = over-keeps (λ s. getD s (p + i) 0) (cellBy k f) (λ j b s. getD-set-other s (k + j) (p + i) (f (getD s (k + j) 0)) 0 (apart j b)) m x
+  cells-other p i h apart = cells-apart (p + i) apart
 
   pub cells-length : length (overMarks m (cellBy k f) x) ≡ length x
   cells-length = over-keeps length (cellBy k f) (λ j b s. length-set s (k + j) (f (getD s (k + j) 0))) m x
