@@ -48,6 +48,9 @@ use Rattle.capture.proofs.Neighbours.{plan-heard, plan-others}
 pub goes-as : (P : List ℕ → CeFixed → Type 0) {conf : RoundConf} {links : List ℕ} {f : CeFixed} → Goes conf links f → P links f → P (conf .graph .adj) (fixedOf conf)
 goes-as P {conf} {links} {f} g p = subst (λ (l : List ℕ). P l (fixedOf conf)) (sym (g .adj)) (subst (P links) (sym (g .fixed)) p)
 
+pub goes : (conf : RoundConf) {f : CeFixed} → f ≡ fixedOf conf → Goes conf (conf .graph .adj) f
+goes conf e = record { adj = refl; fixed = sym e }
+
 -- what holds of the state that is shown holds of the one that it is
 pub as-seen : (P : CeState → Type 0) {n : ℕ} {base : CeState} {b : Board} {x : List ℕ} {c : CeState} → Shown n base b x c
     → (Shown n base b x (seenBy n base b x) → P (seenBy n base b x)) → P c
@@ -95,6 +98,22 @@ module _ {n : ℕ} {base : CeState} {b : Board} {x : List ℕ} (o : Shown n base
 
 -- ---- counts
 
+-- the board after k slots in which no state changes
+abbrev pub later : Board → ℕ → Board
+later b k =
+    record {
+      states = b .states;
+      «goal_reached» = b .«goal_reached»;
+      phases = b .phases;
+      «can_sleep» = b .«can_sleep»;
+      metrics = b .metrics;
+      slot = add64 (b .slot) k;
+      «next_row» = b .«next_row»;
+      «bytes_sent» = b .«bytes_sent»;
+      draw = b .draw;
+      ended = b .ended;
+    }
+
 module _ (conf : RoundConf) {base : CeState} {b : Board} {x : List ℕ} (o : Shown (conf .graph .n) base b x (seenBy (conf .graph .n) base b x)) where
   abbrev n : ℕ
   n = conf .graph .n
@@ -111,23 +130,7 @@ module _ (conf : RoundConf) {base : CeState} {b : Board} {x : List ℕ} (o : Sho
       }
 
   module _ (k : ℕ) where
-    -- the board after k slots in which no state changes
-    abbrev pub laterBy : Board
-    laterBy =
-        record {
-          states = b .states;
-          «goal_reached» = b .«goal_reached»;
-          phases = b .phases;
-          «can_sleep» = b .«can_sleep»;
-          metrics = b .metrics;
-          slot = add64 (b .slot) k;
-          «next_row» = b .«next_row»;
-          «bytes_sent» = b .«bytes_sent»;
-          draw = b .draw;
-          ended = b .ended;
-        }
-
-    pub shown-idled : Shown n base laterBy (passedCells (b .states) k x) (idled conf k (seenBy n base b x))
+    pub shown-idled : Shown n base (later b k) (passedCells (b .states) k x) (idled conf k (seenBy n base b x))
     unfolding idled seenBy
     shown-idled =
         let held = held-kept (o .held) (passedCells (b .states) k x) (passed-length (b .states) k x (o .held .table)) (passed-rest (b .states) k x (o .held .table)) in
@@ -277,3 +280,45 @@ module _ (conf : RoundConf) {base : CeState} {b : Board} {x : List ℕ} (o : Sho
       pub shown-acted : Shown n base r z (acted ws conf c)
       unfolding acted
       shown-acted = subst (λ (q : Plan). Shown n base r z (applied conf c q (toldAll (votingOf conf) (q .hears) (c .held)))) plan-is shown-as
+
+-- ---- a slot
+
+-- after the goal test
+pub finished-goal : (ws : List ℕ) (conf : RoundConf) {links : List ℕ} {f : CeFixed} (base : CeState) {b : Board} {x : List ℕ} (c : CeState) → Goes conf links f → goalBy (f .voting .n) (b .phases) ≡ true
+    → Shown (conf .graph .n) base b x c → Shown (conf .graph .n) base (endedBy (f .interval) b) x (finished ws conf c)
+unfolding finished
+finished-goal ws conf {links} {f} base {b} {x} c g e o =
+    as-seen (λ (c : CeState). Shown (conf .graph .n) base (endedBy (f .interval) b) x (either (networkGoalOf (conf .graph .n) (c .held)) (goalMet conf c) (acted ws conf c))) o
+    (λ o′. rw (sym (goal-seen conf o′) ∙ met) (subst (λ (k : CeFixed). Shown (conf .graph .n) base (endedBy (k .interval) b) x (goalMet conf (seenBy (conf .graph .n) base b x))) (g .fixed) (shown-goal conf o′)))
+  where
+    met : goalBy (conf .graph .n) (b .phases) ≡ true
+    met = ap (λ (k : CeFixed). goalBy (k .voting .n) (b .phases)) (g .fixed) ∙ e
+
+pub finished-acted : (ws : List ℕ) (conf : RoundConf) {links : List ℕ} {f : CeFixed} (base : CeState) {b r : Board} {x y : List ℕ} (c : CeState) → Goes conf links f → goalBy (f .voting .n) (b .phases) ≡ false
+    → Shown (conf .graph .n) base b x c → Shown (conf .graph .n) base r y (acted ws conf c) → Shown (conf .graph .n) base r y (finished ws conf c)
+unfolding finished
+finished-acted ws conf {links} {f} base {b} {r} {x} {y} c g e o q = rw left q
+  where
+    left : networkGoalOf (conf .graph .n) (c .held) ≡ false
+    left = sym (goal-is (o .held)) ∙ ap (λ (k : CeFixed). goalBy (k .voting .n) (b .phases)) (g .fixed) ∙ e
+
+pub slot-begun : (conf : RoundConf) (base : CeState) {b : Board} {x : List ℕ} (c : CeState) → Shown (conf .graph .n) base b x c → Shown (conf .graph .n) base b (passedCells (b .states) 1 x) (begun conf c)
+slot-begun conf base {b} {x} c o = as-seen (λ (c : CeState). Shown (conf .graph .n) base b (passedCells (b .states) 1 x) (begun conf c)) o (λ o′. shown-begun conf o′)
+
+pub slot-idled : (conf : RoundConf) (base : CeState) {b : Board} {x : List ℕ} (c : CeState) (k : ℕ) → (o : Shown (conf .graph .n) base b x c)
+    → Shown (conf .graph .n) base (later b k) (passedCells (b .states) k x) (idled conf k c)
+slot-idled conf base {b} {x} c k o = as-seen (λ (c : CeState). Shown (conf .graph .n) base (later b k) (passedCells (b .states) k x) (idled conf k c)) o (λ o′. shown-idled conf o′ k)
+
+-- plan, merges and turn of a slot, each by what it ensures
+pub slot-acted : (ws links : List ℕ) (f : CeFixed) {b r : Board} {x y z : List ℕ} {p : SlotPlan} {hears : List ℕ} {sent : ℕ} {t₀ t : Told}
+    → PlannedBy ws links f (b .states) (b .slot) (b .draw) x (replicate 64 64) p hears → sent ≡ sentBy (b .states .flooding) (b .phases) x
+    → t₀ .phases ≡ b .phases → t₀ .«can_sleep» ≡ b .«can_sleep» → t₀ .«new_info» ≡ 0 → ToldAll (f .voting) (p .targets) hears t₀ x t y → TurnedBy b (f .interval) p sent t y r z
+    → (conf : RoundConf) (base c : CeState) → Goes conf links f → Shown (conf .graph .n) base b x c → Shown (conf .graph .n) base r z (acted ws conf c)
+slot-acted ws links f {b} {r} {x} {y} {z} {p} {hears} {sent} {t₀} {t} planned es e₁ e₂ e₃ told turn conf base c g o =
+    as-seen (λ (c : CeState). Shown (conf .graph .n) base r z (acted ws conf c)) o
+    (λ o′. shown-acted conf o′ ws p hears
+        (goes-as (λ l k. PlannedBy ws l k (b .states) (b .slot) (b .draw) x (replicate 64 64) p hears) g planned)
+        sent es t₀ t e₁ e₂ e₃ y
+        (goes-as (λ l k. ToldAll (k .voting) (p .targets) hears t₀ x t y) g told)
+        r z
+        (goes-as (λ l k. TurnedBy b (k .interval) p sent t y r z) g turn))

@@ -3,6 +3,7 @@ pub mod Turning
 pub mod Holding
 pub mod Telling
 pub mod Acting
+pub mod Running
 pub mod Hearing
 pub mod Shortage
 pub mod Neighbours

@@ -121,6 +121,7 @@ pub struct CeStep {
 // A step of a round: one slot or, where nobody acts, a stretch of them.
 fn advance(words: &[u64], links: &[u64; 64], f: CeFixed, b: Board, left: u64, table: &mut [u64; 576]) -> CeStep
     requires { ⌜ (0 < left) × (b .ended ≡ false) ⌝ }
+    ensures { λ r. ⌜ r .left < left ⌝ }
     ensures { λ r. ⌜ ((conf : RoundConf) (base c : CeState) → Goes conf (now (links .entry)) f → Shown (conf .graph .n) base b (now (table .entry)) c → Advanced (now (words .entry)) conf base left c r (now (table .exit))) ⌝ }
 {
     let k = idle::idle_slots(f, b, table, left);

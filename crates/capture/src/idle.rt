@@ -66,7 +66,8 @@ pub(crate) fn goal_reached(n: usize, p: Phases) -> bool
 // How many of the next slots nobody acts in, out of those that are left. None where one is not sure: one that can sleep would flood in the next slot.
 pub(crate) fn idle_slots(f: CeFixed, b: Board, table: &[u64; 576], left: u64) -> u64
     requires { ⌜ b .ended ≡ false ⌝ }
-    ensures { λ r. ⌜ ((conf : RoundConf) (base c : CeState) (links : List ℕ) → Goes conf links f → Shown (conf .graph .n) base b (now (table .entry)) c → (r ≤ left) × (0 < r → Idle conf r c)) ⌝ }
+    ensures { λ r. ⌜ r ≤ left ⌝ }
+    ensures { λ r. ⌜ ((conf : RoundConf) (base c : CeState) (links : List ℕ) → Goes conf links f → Shown (conf .graph .n) base b (now (table .entry)) c → 0 < r → Idle conf r c) ⌝ }
 {
     if b.next_row <= b.slot {
         return 0;

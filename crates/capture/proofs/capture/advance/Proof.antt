@@ -1,48 +1,33 @@
+use native.Mathlib.Omega.{arith}
+use Rattle.capture.proofs.Running.{advanced-idle, advanced-slot}
 use borrow.Author.Needs.{needs}
 use Rattle.capture.proofs.capture.advance.Statement.{statement}
 use Rattle.capture.proofs.capture.advance.Tie as tie
 
--- src/capture.rt:126:9
-idle-slots-requires : tie.Need-idle-slots-requires
-idle-slots-requires c κs = search needs
-
--- src/capture.rt:129:9
-pass-requires : tie.Need-pass-requires
-pass-requires c κs = search needs
-
--- src/capture.rt:131:9
-wrapping-add-u64-requires : tie.Need-wrapping-add-u64-requires
-wrapping-add-u64-requires c κs = search needs
-
--- src/capture.rt:134:19
-sub-t14 : tie.Need-sub-t14
-sub-t14 c = ?
-
--- src/capture.rt:132:9
 returns : tie.Need-returns
-returns c = ?
+returns c =
+    let k = c .before .before .before .before .before .idle-slots in (
+      omega (arith, k .ensures .0, c .before .before .before .before .if1 .taken),
+      λ conf base state g o. rw (c .wrapping-add-u64 .ensures, c .before .pass .ensures)
+          (advanced-idle _ conf base state _ _ (c .before .before .before .before .if1 .taken) (k .ensures .0) (k .ensures .1 conf base state _ g o (c .before .before .before .before .if1 .taken)) o),
+    )
 
--- src/capture.rt:138:16
-slot-requires : tie.Need-slot-requires
-slot-requires c κs = search needs
-
--- src/capture.rt:139:15
-sub-t17 : tie.Need-sub-t17
-sub-t17 c = search needs
-
--- src/capture.rt:122:1
 returns-2 : tie.Need-returns-2
-returns-2 c = ?
+returns-2 c =
+    let pre = c .before .before .before .before .before .before .pre in (
+      omega (arith, pre .0),
+      λ conf base state g o. advanced-slot _ conf base state _ (pre .0) (pre .1) o (c .slot .ensures conf base state g o),
+    )
 
 pub advance-spec : {M : Type 1} → statement M
 advance-spec =
     tie.close
     (tie.spec
-    idle-slots-requires
-    pass-requires
-    wrapping-add-u64-requires
-    sub-t14
+    (λ c κs. search needs)
+    (λ c κs. search needs)
+    (λ c κs. search needs)
+    (λ c. c .before .before .before .before .before .idle-slots .ensures .0)
     returns
-    slot-requires
-    sub-t17
+    (λ c κs. search needs)
+    (λ c. search needs)
     returns-2)

@@ -1,43 +1,45 @@
+use Prim.Native.Nat.{_^_, _<_}
+use mathlib.Core.Path.{_≡_, sym, _∙_}
+use native.Mathlib.Omega.{arith}
+use Rattle.engines.specs.declared.network.RoundConf.{RoundConf}
+use Rattle.capture.specs.declared.capture.CeState.{CeState}
+use Rattle.capture.specs.Boards.{Shown, Goes}
+use Rattle.capture.proofs.Running.{Going, going-first, going-stop, going-short, going-none, going-turn}
+use borrow.Author.Needs.{needs}
 use Rattle.capture.proofs.capture.dry_run.Statement.{statement}
 use Rattle.capture.proofs.capture.dry_run.Tie as tie
 
 abbrev Inv-loop : tie.InvT-loop
-Inv-loop words links f length table₀ d₀ left₀ due₀ table d left due = ?
+Inv-loop words links f length table₀ d₀ left₀ due₀ table d left due =
+    (conf : RoundConf) (base state : CeState) → Goes conf links f → conf .length ≡ length → Shown (conf .graph .n) base d₀ table₀ state
+    → Going words conf base state left d table due
 
 abbrev μ-loop : tie.MeasureT-loop
-μ-loop words links f length table₀ d₀ left₀ due₀ table d left due = ?
+μ-loop words links f length table₀ d₀ left₀ due₀ table d left due = left
 
--- src/capture.rt:156:5
+-- read at the entry: further on `search` meets too many records to reach it
+small : (s : tie.Start Inv-loop μ-loop) → s .args .length < 2 ^ 64
+small s = search needs
+
 loop-holds : tie.Need-loop-holds Inv-loop μ-loop
-loop-holds c = ?
+loop-holds c = λ conf base state g e o. rw (← e) (going-first _ conf base state o)
 
--- src/capture.rt:158:13
 returns : tie.Need-returns Inv-loop μ-loop
-returns c = ?
+returns c =
+    λ conf base state g e o. going-stop _ conf base state (c .before .before .loop .inv conf base state g e o) (c .before .loop-test .taken) (c .if1 .taken)
 
--- src/capture.rt:161:13
 returns-2 : tie.Need-returns-2 Inv-loop μ-loop
-returns-2 c = ?
+returns-2 c =
+    λ conf base state g e o. going-short _ conf base state (c .before .before .before .loop .inv conf base state g e o) (c .if2 .taken)
 
--- src/capture.rt:163:9
-due-after-requires : tie.Need-due-after-requires Inv-loop μ-loop
-due-after-requires c κs = ?
-
--- src/capture.rt:164:13
-advance-requires : tie.Need-advance-requires Inv-loop μ-loop
-advance-requires c κs = ?
-
--- src/capture.rt:156:5
-loop-less : tie.Need-loop-less Inv-loop μ-loop
-loop-less c = ?
-
--- src/capture.rt:156:5
 loop-again : tie.Need-loop-again Inv-loop μ-loop
-loop-again c = ?
+loop-again c =
+    λ conf base state g e o. going-turn _ conf base state (c .before .before .before .before .before .before .before .loop .inv conf base state g e o) (rw e (small (c .before .before .before .before .before .before .before .before .before)))
+        (c .before .before .before .before .before .before .loop-test .taken) (c .before .before .before .due-after .ensures) (λ s shown. c .before .advance .ensures .1 conf base s g shown)
 
--- src/capture.rt:150:1
 returns-3 : tie.Need-returns-3 Inv-loop μ-loop
-returns-3 c = ?
+returns-3 c =
+    λ conf base state g e o. going-none _ conf base state (c .before .loop .inv conf base state g e o) (c .loop-test .left)
 
 pub dry-run-spec : {M : Type 1} → statement M
 dry-run-spec =
@@ -48,8 +50,8 @@ dry-run-spec =
     loop-holds
     returns
     returns-2
-    due-after-requires
-    advance-requires
-    loop-less
+    (λ c κs. search needs)
+    (λ c κs. (c .before .before .before .before .loop-test .taken, c .before .before .before .if1 .left))
+    (λ c. c .before .advance .ensures .0)
     loop-again
     returns-3)

@@ -1,27 +1,23 @@
+use mathlib.Core.Path.{sym, _∙_}
+use Rattle.capture.proofs.Acting.{finished-goal, finished-acted}
 use borrow.Author.Needs.{needs}
 use Rattle.capture.proofs.capture.finish.Statement.{statement}
 use Rattle.capture.proofs.capture.finish.Tie as tie
 
--- src/capture.rt:99:8
-goal-reached-requires : tie.Need-goal-reached-requires
-goal-reached-requires c κs = search needs
-
--- src/capture.rt:100:9
-end-requires : tie.Need-end-requires
-end-requires c κs = search needs
-
--- src/capture.rt:100:9
 returns : tie.Need-returns
-returns c = ?
+returns c =
+    λ conf base state g o. rw (c .end .ensures) (finished-goal _ conf base state g (sym (c .before .before .goal-reached .ensures) ∙ c .before .if1 .taken) o)
 
--- src/capture.rt:102:5
-act-requires : tie.Need-act-requires
-act-requires c κs = search needs
-
--- src/capture.rt:95:1
 returns-2 : tie.Need-returns-2
-returns-2 c = ?
+returns-2 c =
+    λ conf base state g o. finished-acted _ conf base state g (sym (c .before .before .before .goal-reached .ensures) ∙ c .before .before .if1 .left) o (c .act .ensures conf base state g o)
 
 pub finish-spec : {M : Type 1} → statement M
 finish-spec =
-    tie.close (tie.spec goal-reached-requires end-requires returns act-requires returns-2)
+    tie.close
+    (tie.spec
+    (λ c κs. search needs)
+    (λ c κs. search needs)
+    returns
+    (λ c κs. search needs)
+    returns-2)

@@ -1,18 +1,18 @@
+use Rattle.capture.specs.Capture.{begun, slotOf}
+use Rattle.capture.proofs.Acting.{slot-begun}
 use borrow.Author.Needs.{needs}
 use Rattle.capture.proofs.capture.slot.Statement.{statement}
 use Rattle.capture.proofs.capture.slot.Tie as tie
 
--- src/capture.rt:109:5
-pass-requires : tie.Need-pass-requires
-pass-requires c κs = search needs
-
--- src/capture.rt:110:5
-finish-requires : tie.Need-finish-requires
-finish-requires c κs = search needs
-
--- src/capture.rt:105:1
 returns : tie.Need-returns
-returns c = ?
+unfolding slotOf
+returns c =
+    λ conf base state g o. c .finish .ensures conf base (begun conf state) g (rw (c .before .before .pass .ensures) (slot-begun conf base state o))
 
 pub slot-spec : {M : Type 1} → statement M
-slot-spec = tie.close (tie.spec pass-requires finish-requires returns)
+slot-spec =
+    tie.close
+    (tie.spec
+    (λ c κs. search needs)
+    (λ c κs. search needs)
+    returns)

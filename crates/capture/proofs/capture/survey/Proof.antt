@@ -1,27 +1,22 @@
+use mathlib.Core.Path.{refl}
+use Rattle.capture.proofs.Acting.{goes}
+use Rattle.capture.proofs.Running.{surveyed-as}
 use borrow.Author.Needs.{needs}
 use Rattle.capture.proofs.capture.survey.Statement.{statement}
 use Rattle.capture.proofs.capture.survey.Tie as tie
 
--- src/capture.rt:227:9
-fixed-of-requires : tie.Need-fixed-of-requires
-fixed-of-requires c κs = search needs
-
--- src/capture.rt:229:9
-unpack-requires : tie.Need-unpack-requires
-unpack-requires c κs = search needs
-
--- src/capture.rt:230:9
-dry-run-requires : tie.Need-dry-run-requires
-dry-run-requires c κs = search needs
-
--- src/capture.rt:233:16
-pack-requires : tie.Need-pack-requires
-pack-requires c κs = search needs
-
--- src/capture.rt:222:1
 returns : tie.Need-returns
-returns c = ?
+returns c =
+    let conf = c .before .before .before .before .before .before .before .before .before .before .before .before .args .conf in
+    let went = goes conf (c .before .before .before .before .before .before .before .before .fixed-of .ensures) in
+    surveyed-as _ conf _ _ (c .before .before .before .dry-run .ensures conf (c .before .before .before .before .before .before .before .before .before .before .before .before .args .c) _ went refl (c .before .before .before .before .before .before .unpack .ensures refl conf refl)) (c .pack .ensures)
 
 pub survey-spec : {M : Type 1} → statement M
 survey-spec =
-    tie.close (tie.spec fixed-of-requires unpack-requires dry-run-requires pack-requires returns)
+    tie.close
+    (tie.spec
+    (λ c κs. search needs)
+    (λ c κs. search needs)
+    (λ c κs. search needs)
+    (λ c κs. search needs)
+    returns)

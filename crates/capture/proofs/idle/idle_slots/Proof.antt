@@ -16,10 +16,9 @@ returns-5 c =
     let silent = awake .before .before in
     let due = silent .before .before in
     let wait = c .shortest-wait .ensures in
-    let most = c .before .smaller .ensures in
-    λ conf base state links g o. (
+    let most = c .before .smaller .ensures in (
       omega (arith, wait .0, most),
-      λ p. rests-idle conf base state links _ _ _ _ g o
+      λ conf base state links g o p. rests-idle conf base state links _ _ _ _ g o
           (record {
             small = small (due .before .before);
             going = due .before .before .pre;
@@ -35,11 +34,11 @@ pub idle-slots-spec : {M : Type 1} → statement M
 idle-slots-spec =
     tie.close
     (tie.spec
-    (λ c conf base state links g o. (omega arith, λ p. absurd (omega arith)))
-    (λ c conf base state links g o. (omega arith, λ p. absurd (omega arith)))
-    (λ c conf base state links g o. (omega arith, λ p. absurd (omega arith)))
+    (λ c. (omega arith, λ conf base state links g o p. absurd (omega arith)))
+    (λ c. (omega arith, λ conf base state links g o p. absurd (omega arith)))
+    (λ c. (omega arith, λ conf base state links g o p. absurd (omega arith)))
     (λ c κs. search needs)
-    (λ c conf base state links g o. (omega arith, λ p. absurd (omega arith)))
+    (λ c. (omega arith, λ conf base state links g o p. absurd (omega arith)))
     (λ c. search needs)
     (λ c κs. search needs)
     (λ c κs. search needs)
