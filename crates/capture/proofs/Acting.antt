@@ -317,8 +317,8 @@ pub slot-acted : (ws links : List ℕ) (f : CeFixed) {b r : Board} {x y z : List
 slot-acted ws links f {b} {r} {x} {y} {z} {p} {hears} {sent} {t₀} {t} planned es e₁ e₂ e₃ told turn conf base c g o =
     as-seen (λ (c : CeState). Shown (conf .graph .n) base r z (acted ws conf c)) o
     (λ o′. shown-acted conf o′ ws p hears
-        (goes-as (λ l k. PlannedBy ws l k (b .states) (b .slot) (b .draw) x (replicate 64 64) p hears) g planned)
-        sent es t₀ t e₁ e₂ e₃ y
-        (goes-as (λ l k. ToldAll (k .voting) (p .targets) hears t₀ x t y) g told)
-        r z
-        (goes-as (λ l k. TurnedBy b (k .interval) p sent t y r z) g turn))
+    (goes-as (λ l k. PlannedBy ws l k (b .states) (b .slot) (b .draw) x (replicate 64 64) p hears) g planned)
+    sent es t₀ t e₁ e₂ e₃ y
+    (goes-as (λ l k. ToldAll (k .voting) (p .targets) hears t₀ x t y) g told)
+    r z
+    (goes-as (λ l k. TurnedBy b (k .interval) p sent t y r z) g turn))

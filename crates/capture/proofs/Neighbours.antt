@@ -267,4 +267,3 @@ module _ (ws : List ℕ) (loss : Float) (links : List ℕ) (slot timeout : ℕ) 
       by : (i : ℕ) (p : Captured) (b : Bool) → has targets i ≡ b → getD (p .hears) t 0 ≡ 64 → getD (either b (captureAt ws loss links (s .flooding) i p) p .hears) t 0 ≡ 64
       by i p true f q = other-heard ws loss links (s .flooding) i p t (λ z. true≢false (sym f ∙ ap (λ (k : ℕ). has targets k) (sym z) ∙ e)) ∙ q
       by i p false f q = q
-

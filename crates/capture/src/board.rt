@@ -41,13 +41,21 @@ use packets::len;
 // Where the columns start: last progress, the three counts, the parts of what is held, and the length of the data's text of what
 // was held when the round began.
 pub(crate) const LAST: usize = 0;
+
 pub(crate) const LISTEN: usize = 64;
+
 pub(crate) const FLOOD: usize = 128;
+
 pub(crate) const SLEEP: usize = 192;
+
 pub(crate) const TERM: usize = 256;
+
 pub(crate) const LEN: usize = 320;
+
 pub(crate) const MARKS: usize = 384;
+
 pub(crate) const FROM: usize = 448;
+
 pub(crate) const DATA: usize = 512;
 
 // The positions that hold a packet of each phase, and those that hold a text that is none.
@@ -295,7 +303,13 @@ fn first_states(n: usize, initiator: usize) -> StateSets
 }
 
 // Board and table at the start of a round.
-pub(crate) fn unpack(n: usize, c: CeState, initiator: usize, cursor: usize, table: &mut [u64; 576]) -> Board
+pub(crate) fn unpack(
+    n: usize,
+    c: CeState,
+    initiator: usize,
+    cursor: usize,
+    table: &mut [u64; 576],
+) -> Board
     ensures { λ r. ⌜ (length (now (table .entry)) ≡ 576 → (conf : RoundConf) → conf .graph .n ≡ n → Shown n c r (now (table .exit)) (startOf conf initiator cursor c)) ⌝ }
 {
     let s = take_all(n, c, table);
@@ -340,7 +354,13 @@ fn node_by(s: StateSets, goal_reached: u64, table: &[u64; 576], i: usize, v: Nod
     }
 }
 
-fn pack_nodes(nodes: [Node; 64], n: usize, s: StateSets, goal_reached: u64, table: &[u64; 576]) -> [Node; 64]
+fn pack_nodes(
+    nodes: [Node; 64],
+    n: usize,
+    s: StateSets,
+    goal_reached: u64,
+    table: &[u64; 576],
+) -> [Node; 64]
     ensures { λ r. ⌜ r ≡ nodesBy n nodes s «goal_reached» (now (table .entry)) ⌝ }
 {
     let count = clamp::at_most_64(n);

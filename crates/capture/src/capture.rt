@@ -119,7 +119,14 @@ pub struct CeStep {
 }
 
 // A step of a round: one slot or, where nobody acts, a stretch of them.
-fn advance(words: &[u64], links: &[u64; 64], f: CeFixed, b: Board, left: u64, table: &mut [u64; 576]) -> CeStep
+fn advance(
+    words: &[u64],
+    links: &[u64; 64],
+    f: CeFixed,
+    b: Board,
+    left: u64,
+    table: &mut [u64; 576],
+) -> CeStep
     requires { ⌜ (0 < left) × (b .ended ≡ false) ⌝ }
     ensures { λ r. ⌜ r .left < left ⌝ }
     ensures { λ r. ⌜ ((conf : RoundConf) (base c : CeState) → Goes conf (now (links .entry)) f → Shown (conf .graph .n) base b (now (table .entry)) c → Advanced (now (words .entry)) conf base left c r (now (table .exit))) ⌝ }
@@ -148,7 +155,14 @@ pub struct CeRun {
 }
 
 // The round without its rows, and how many are due. Once words have run short the rest is not run: a round may have four billion slots, and a lack stays noted.
-fn dry_run(words: &[u64], links: &[u64; 64], f: CeFixed, b: Board, length: u64, table: &mut [u64; 576]) -> CeRun
+fn dry_run(
+    words: &[u64],
+    links: &[u64; 64],
+    f: CeFixed,
+    b: Board,
+    length: u64,
+    table: &mut [u64; 576],
+) -> CeRun
     ensures { λ r. ⌜ ((conf : RoundConf) (base c : CeState) → Goes conf (now (links .entry)) f → conf .length ≡ length → Shown (conf .graph .n) base b (now (table .entry)) c → Ran (now (words .entry)) conf base c r (now (table .exit))) ⌝ }
 {
     let mut d = b;
@@ -184,7 +198,16 @@ fn row_of(b: Board, top: u64) -> Row
 }
 
 // The round again, for its rows alone, as many as the part that is lent holds. Slots behind the last row are not run again.
-fn record_run(words: &[u64], part: &mut [u64], links: &[u64; 64], f: CeFixed, b: Board, length: u64, top: u64, table: &mut [u64; 576])
+fn record_run(
+    words: &[u64],
+    part: &mut [u64],
+    links: &[u64; 64],
+    f: CeFixed,
+    b: Board,
+    length: u64,
+    top: u64,
+    table: &mut [u64; 576],
+)
     ensures { λ _. ⌜ ((conf : RoundConf) (base c : CeState) → Goes conf (now (links .entry)) f → conf .length ≡ length → Shown (conf .graph .n) base b (now (table .entry)) c → highestProgress (conf .graph .n) (base .network .nodes) ≡ top → now (part .exit) ≡ placed (now (part .entry)) 0 (rowsOf (now (words .entry)) conf length c)) ⌝ }
 {
     let mut d = b;
@@ -237,7 +260,14 @@ fn survey(words: &[u64], conf: RoundConf, c: CeState, initiator: usize, cursor: 
 }
 
 // Its rows, into a part of their length.
-fn write_rows(words: &[u64], part: &mut [u64], conf: RoundConf, c: CeState, initiator: usize, cursor: usize)
+fn write_rows(
+    words: &[u64],
+    part: &mut [u64],
+    conf: RoundConf,
+    c: CeState,
+    initiator: usize,
+    cursor: usize,
+)
     ensures { λ _. ⌜ now (part .exit) ≡ placed (now (part .entry)) 0 (rowsOf (now (words .entry)) conf (conf .length) (startOf conf initiator cursor c)) ⌝ }
 {
     let g = conf.graph;

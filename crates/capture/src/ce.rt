@@ -123,7 +123,13 @@ fn tell(voting: Voting, t: Told, i: usize, src: usize, table: &mut [u64; 576]) -
 }
 
 // Each target merges what it heard. No target is heard, so all of it is as it was held at the slot's start.
-pub(crate) fn tell_all(voting: Voting, targets: u64, hears: &[usize; 64], before: Told, table: &mut [u64; 576]) -> Told
+pub(crate) fn tell_all(
+    voting: Voting,
+    targets: u64,
+    hears: &[usize; 64],
+    before: Told,
+    table: &mut [u64; 576],
+) -> Told
     ensures { λ r. ⌜ ToldAll voting targets (now (hears .entry)) before (now (table .entry)) r (now (table .exit)) ⌝ }
 {
     let mut t = before;

@@ -46,7 +46,10 @@ fn goals(before: u64, new_info: u64, p: Phases) -> u64
     ensures { λ r. ⌜ ((i : ℕ) → has r i ≡ either (has «new_info» i) (has (p .committed) i || has (p .aborted) i) (has before i)) ⌝ }
 {
     let decided = sets::union(p.committed, p.aborted);
-    sets::union(sets::intersection(new_info, decided), sets::difference(before, new_info))
+    sets::union(
+        sets::intersection(new_info, decided),
+        sets::difference(before, new_info),
+    )
 }
 
 // What the plan of a slot counted, added to the room's counts.
@@ -70,7 +73,14 @@ pub(crate) fn pass(s: StateSets, k: u64, table: &mut [u64; 576])
 }
 
 // A slot's plan and its merges, applied to the states. Recovery and new information are progress.
-pub(crate) fn turn(b: Board, interval: u64, p: SlotPlan, sent: u64, t: Told, table: &mut [u64; 576]) -> Board
+pub(crate) fn turn(
+    b: Board,
+    interval: u64,
+    p: SlotPlan,
+    sent: u64,
+    t: Told,
+    table: &mut [u64; 576],
+) -> Board
     ensures { λ r. ⌜ TurnedBy b interval p sent t (now (table .entry)) r (now (table .exit)) ⌝ }
 {
     let s = b.states;

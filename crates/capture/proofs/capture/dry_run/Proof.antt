@@ -35,7 +35,7 @@ returns-2 c =
 loop-again : tie.Need-loop-again Inv-loop μ-loop
 loop-again c =
     λ conf base state g e o. going-turn _ conf base state (c .before .before .before .before .before .before .before .loop .inv conf base state g e o) (rw e (small (c .before .before .before .before .before .before .before .before .before)))
-        (c .before .before .before .before .before .before .loop-test .taken) (c .before .before .before .due-after .ensures) (λ s shown. c .before .advance .ensures .1 conf base s g shown)
+    (c .before .before .before .before .before .before .loop-test .taken) (c .before .before .before .due-after .ensures) (λ s shown. c .before .advance .ensures .1 conf base s g shown)
 
 returns-3 : tie.Need-returns-3 Inv-loop μ-loop
 returns-3 c =

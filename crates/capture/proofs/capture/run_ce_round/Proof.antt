@@ -27,32 +27,48 @@ returns-2 c =
 add-behind : tie.Need-add-behind
 add-behind c =
     let a = c .before .before .before .before .before .before .before .before .before .args in
-    omega (arith, fits (a .words .now) (a .rows .now) (a .used) (a .conf) (a .c) (a .initiator) (a .cursor) (c .before .before .before .before .before .before .long-refusal .ensures) (c .before .before .before .before .before .if1 .left) _ _
-    (c .before .before .before .before .survey .ensures) (c .before .before .ran-short .ensures) (c .before .late-refusal .ensures) (c .if2 .left))
+    omega (
+      arith,
+      fits (a .words .now) (a .rows .now) (a .used) (a .conf) (a .c) (a .initiator) (a .cursor) (c .before .before .before .before .before .before .long-refusal .ensures) (c .before .before .before .before .before .if1 .left) _ _
+          (c .before .before .before .before .survey .ensures) (c .before .before .ran-short .ensures) (c .before .late-refusal .ensures) (c .if2 .left),
+    )
 
 mul-from : tie.Need-mul-from
 mul-from c =
     let a = c .before .before .before .before .before .before .before .before .before .before .args in
-    omega (arith, fits (a .words .now) (a .rows .now) (a .used) (a .conf) (a .c) (a .initiator) (a .cursor) (c .before .before .before .before .before .before .before .long-refusal .ensures) (c .before .before .before .before .before .before .if1 .left) _ _
-    (c .before .before .before .before .before .survey .ensures) (c .before .before .before .ran-short .ensures) (c .before .before .late-refusal .ensures) (c .before .if2 .left))
+    omega (
+      arith,
+      fits (a .words .now) (a .rows .now) (a .used) (a .conf) (a .c) (a .initiator) (a .cursor) (c .before .before .before .before .before .before .before .long-refusal .ensures) (c .before .before .before .before .before .before .if1 .left) _ _
+          (c .before .before .before .before .before .survey .ensures) (c .before .before .before .ran-short .ensures) (c .before .before .late-refusal .ensures) (c .before .if2 .left),
+    )
 
 mul-to : tie.Need-mul-to
 mul-to c =
     let a = c .before .before .before .before .before .before .before .before .before .before .args in
-    omega (arith, fits (a .words .now) (a .rows .now) (a .used) (a .conf) (a .c) (a .initiator) (a .cursor) (c .before .before .before .before .before .before .before .long-refusal .ensures) (c .before .before .before .before .before .before .if1 .left) _ _
-    (c .before .before .before .before .before .survey .ensures) (c .before .before .before .ran-short .ensures) (c .before .before .late-refusal .ensures) (c .before .if2 .left))
+    omega (
+      arith,
+      fits (a .words .now) (a .rows .now) (a .used) (a .conf) (a .c) (a .initiator) (a .cursor) (c .before .before .before .before .before .before .before .long-refusal .ensures) (c .before .before .before .before .before .before .if1 .left) _ _
+          (c .before .before .before .before .before .survey .ensures) (c .before .before .before .ran-short .ensures) (c .before .before .late-refusal .ensures) (c .before .if2 .left),
+    )
 
 mul-write-rows : tie.Need-mul-write-rows
 mul-write-rows c =
     let a = c .before .before .before .before .before .before .before .before .before .before .args in
-    omega (arith, fits (a .words .now) (a .rows .now) (a .used) (a .conf) (a .c) (a .initiator) (a .cursor) (c .before .before .before .before .before .before .before .long-refusal .ensures) (c .before .before .before .before .before .before .if1 .left) _ _
-    (c .before .before .before .before .before .survey .ensures) (c .before .before .before .ran-short .ensures) (c .before .before .late-refusal .ensures) (c .before .if2 .left), c .before .before .before .before .before .before .before .before .before .before .good)
+    omega (
+      arith,
+      fits (a .words .now) (a .rows .now) (a .used) (a .conf) (a .c) (a .initiator) (a .cursor) (c .before .before .before .before .before .before .before .long-refusal .ensures) (c .before .before .before .before .before .before .if1 .left) _ _
+          (c .before .before .before .before .before .survey .ensures) (c .before .before .before .ran-short .ensures) (c .before .before .late-refusal .ensures) (c .before .if2 .left),
+      c .before .before .before .before .before .before .before .before .before .before .good,
+    )
 
 part-write-rows-end : tie.Need-part-write-rows-end
 part-write-rows-end c =
     let a = c .before .before .before .before .before .before .before .before .before .before .args in
-    omega (arith, fits (a .words .now) (a .rows .now) (a .used) (a .conf) (a .c) (a .initiator) (a .cursor) (c .before .before .before .before .before .before .before .long-refusal .ensures) (c .before .before .before .before .before .before .if1 .left) _ _
-    (c .before .before .before .before .before .survey .ensures) (c .before .before .before .ran-short .ensures) (c .before .before .late-refusal .ensures) (c .before .if2 .left))
+    omega (
+      arith,
+      fits (a .words .now) (a .rows .now) (a .used) (a .conf) (a .c) (a .initiator) (a .cursor) (c .before .before .before .before .before .before .before .long-refusal .ensures) (c .before .before .before .before .before .before .if1 .left) _ _
+          (c .before .before .before .before .before .survey .ensures) (c .before .before .before .ran-short .ensures) (c .before .before .late-refusal .ensures) (c .before .if2 .left),
+    )
 
 returns-3 : tie.Need-returns-3
 returns-3 c =

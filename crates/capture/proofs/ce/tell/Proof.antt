@@ -28,10 +28,10 @@ returns-4 c =
     let w = heard-as _ _ _ (c .before .before .before .before .before .before .before .before .before .before .held-by .ensures) (c .before .before .before .before .before .before .before .before .slip-at .ensures) (c .before .before .before .before .before .before .slip-at2 .ensures) (m .ensures) in
     told-new _ _ _ _ _ (m .result .slip) _ _ (c .before .before .before .before .before .before .before .before .before .before .before .before .before .before .before .pre) (c .write .ensures)
     (λ base held h k o.
-        let there′ = k (omega (arith, c .before .before .before .before .before .before .before .before .before .before .before .before .before .before .if1 .left)) in (
-          packet-heard _ o _ _ there′ h there (m .result) w ∙ rw (not-false (m .result .news) (c .before .before .before .if3 .left)),
-          source-in _ o _ _ there′ h there (m .result) w,
-        ))
+    let there′ = k (omega (arith, c .before .before .before .before .before .before .before .before .before .before .before .before .before .before .if1 .left)) in (
+      packet-heard _ o _ _ there′ h there (m .result) w ∙ rw (not-false (m .result .news) (c .before .before .before .if3 .left)),
+      source-in _ o _ _ there′ h there (m .result) w,
+    ))
 
 pub tell-spec : {M : Type 1} → statement M
 tell-spec =
