@@ -326,8 +326,8 @@ fn hear_packet(voting: Voting, local: Slip, received: Slip, node_id: usize) -> D
     }
 }
 
-// What position node_id makes of a packet, by what it holds: an empty one takes it. What is no news leaves the local as it came, a
-// short bitmap too.
+// What position node_id makes of a packet, by what it holds: an empty one takes it. What is no news leaves the local as
+// it came, a short bitmap too.
 pub fn hear(voting: Voting, held: Held, local: Slip, received: Slip, node_id: usize) -> Draft
     ensures { λ r. ⌜ HeardBy (noOf voting) (voting .n) «node_id» held local received r ⌝ }
 {

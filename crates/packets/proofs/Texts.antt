@@ -72,14 +72,13 @@ list-more d n h k = go (take n d) (drop-cons (take n d) 0 0 (omega (arith, lengt
 marks-last : (n m : ℕ) → marksOf m (suc n) ≡ marksOf m n ++ (has m n ∷ [])
 unfolding marksOf
 marks-last zero m = ap (λ (b : Bool). b ∷ []) (sym (has-low m))
-marks-last (suc n) m =
-    ap (λ (r : List Bool). eqb (m % 2) 1 ∷ r) (marks-last n (m / 2) ∙ ap (λ (b : Bool). marksOf (m / 2) n ++ (b ∷ [])) (has-half m n))
+marks-last (suc n) m = rw (marks-last n (m / 2), has-half m n)
 
-items-last : (bs : List Bool) (b : Bool) → length (itemsText boolText (bs ++ (b ∷ []))) ≡ length (itemsText boolText bs) + 1 + length (boolText b)
+items-last : (bs : List Bool) (b : Bool)
+    → length (itemsText boolText (bs ++ (b ∷ []))) ≡ length (itemsText boolText bs) + 1 + length (boolText b)
 unfolding itemsText
 items-last [] b = omega (arith, length-append (boolText b) (93 ∷ []))
-items-last (x ∷ r) b =
-    omega (arith, items-last r b, length-append (boolText x) (itemsText boolText r), length-append (boolText x) (itemsText boolText (r ++ (b ∷ []))))
+items-last (x ∷ r) b = simp length-append (omega (arith, items-last r b))
 
 entry-len : (b : Bool) → length (boolText b) + boolByte b ≡ 5
 entry-len true = refl
@@ -90,7 +89,7 @@ pub marks-len : (m n : ℕ) → length (itemsText boolText (marksOf m n)) + coun
 unfolding countOf
 marks-len m zero = omega (arith, ap length (marks-none m 0 (omega arith)))
 marks-len m (suc n) =
-    omega (arith, ap (λ (bs : List Bool). length (itemsText boolText bs)) (marks-last n m), items-last (marksOf m n) (has m n), entry-len (has m n), marks-len m n)
+    rw (marks-last n m) (omega (arith, items-last (marksOf m n) (has m n), entry-len (has m n), marks-len m n))
 
 pub marks-len-le : (n m : ℕ) → length (itemsText boolText (marksOf m n)) ≤ 6 * n + 1
 marks-len-le n m = omega (arith, marks-len m n)

@@ -38,8 +38,16 @@ count-stop w n (suc k) h f = go (eqb n (suc k)) refl (λ l. count-stop w n k l f
     go true e ih = ap (countOf w) (sym (eqb-true n (suc k) e))
     go false e ih = let below : n ≤ k = omega (arith, eqb-false n (suc k) e) in omega (arith, ih below, ap boolByte (f k below))
 
--- what w has of the first n marks f is all that it has
-pub count-first : (m n f w : ℕ) → n ≤ 64 → ((j : ℕ) → has f j ≡ (ltb j n && ltb j 64)) → ((j : ℕ) → has w j ≡ (has m j && has f j)) → countOf w 64 ≡ countOf m n
-count-first m n f w h e g =
-    count-stop w n 64 h (λ j l. g j ∙ ap (λ (t : Bool). has m j && t) (e j ∙ ap (λ (t : Bool). t && ltb j 64) (le-ltb j n l)) ∙ and-false (has m j))
-    ∙ le-antisymm (count-mono w m n (λ j l x. and-true (has m j) (has f j) (sym (g j) ∙ x) .0)) (count-mono m w n (λ j l x. g j ∙ true-and (has m j) (has f j) x (e j ∙ true-and (ltb j n) (ltb j 64) (lt-ltb j n l) (lt-ltb j 64 (omega arith)))))
+-- w has the marks of m that f has, the first n: as many as m has of those
+pub count-first : (m n f w : ℕ) → n ≤ 64 → ((j : ℕ) → has f j ≡ (ltb j n && ltb j 64)) → ((j : ℕ) → has w j ≡ (has m j && has f j))
+    → countOf w 64 ≡ countOf m n
+count-first m n f w h e g = count-stop w n 64 h out ∙ le-antisymm (count-mono w m n from) (count-mono m w n into)
+  where
+    out : (j : ℕ) → n ≤ j → has w j ≡ false
+    out j l = g j ∙ rw (e j, le-ltb j n l) (and-false (has m j))
+
+    from : (j : ℕ) → j < n → has w j ≡ true → has m j ≡ true
+    from j l x = and-true (has m j) (has f j) (sym (g j) ∙ x) .0
+
+    into : (j : ℕ) → j < n → has m j ≡ true → has w j ≡ true
+    into j l x = g j ∙ true-and (has m j) (has f j) x (e j ∙ rw (lt-ltb j n l, lt-ltb j 64 (omega arith)))

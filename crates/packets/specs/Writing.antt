@@ -1,5 +1,5 @@
 -- What the writers answer and leave, by 01, "Votes and packets" and refusals 9 and 10, for a packet with the text t; `fine` says that it is within the limits.
--- And how long a capture packet's text is, told from its parts: no rule of 01, since by proofs/Lengths it is the length of the text.
+-- And how long a capture packet's text is, told from its parts: no rule of 01; proofs/Lengths has it equal to the text's length.
 -- Assumes nothing: these are definitions.
 use mathlib.Core.Bool.{Bool, true, false, _&&_}
 use mathlib.Core.List.{List}
@@ -30,11 +30,14 @@ dataLen d = textLen (leb (d .len) dataBytes) (dataText d)
 unfoldable pub bitmapLen : Bitmap → ℕ
 bitmapLen b = either (eqb (b .len) 0) 2 (1 + 6 * b .len - countOf (b .marks) (b .len))
 
--- the length of a packet's text, from its term, its phase, the length k of its data's text, and its bitmap; 51 bytes are names, braces, commas and colons.
--- 0 where no packet has such parts: a data's text has 2 bytes at least, and 129 at most, for 32 bytes of three digits.
+-- the length of a packet's text from its term, its phase, the length k of its data's text, and its bitmap; names, braces,
+-- commas and colons are 51 bytes. 0 where no packet has such parts: a data's text has 2 bytes at least, and 129 at most, for
+-- 32 bytes of three digits
 unfoldable pub partsLen : ℕ → TwoPcPhase → ℕ → Bitmap → ℕ
 partsLen t f k b =
-    either (leb (b .len) bitmapEntries && (ltb 0 k && leb k 129)) (51 + length (decimal t) + length (phaseText f) + k + bitmapLen b) 0
+    either (leb (b .len) bitmapEntries && (ltb 0 k && leb k 129))
+    (51 + length (decimal t) + length (phaseText f) + k + bitmapLen b)
+    0
 
 abbrev pub refused : ℕ → Wrote
 refused k = record { refusal = k; next = 0 }

@@ -9,4 +9,7 @@ adopt-with-local-vote-spec =
     (λ c κs. search needs)
     (λ c κs. search needs)
     (λ c κs. search needs)
-    (λ c d. adopted-by _ _ _ _ (c .before .before .before .ensure-bitmap-len .ensures d) (c .before .before .voice .ensures d) (c .before .settle .ensures d)))
+    (λ c d. adopted-by _ _ _ _
+    (c .before .before .before .ensure-bitmap-len .ensures d)
+    (c .before .before .voice .ensures d)
+    (c .before .settle .ensures d)))

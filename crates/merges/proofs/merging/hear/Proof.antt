@@ -7,7 +7,8 @@ use Rattle.merges.proofs.merging.hear.Tie as tie
 returns : tie.Need-returns
 unfolding heardOf
 returns c =
-    rw (c .before .enum-told .given .1) (record { merged = λ d l h k. ap newInfo (sym (c .adopt-with-local-vote .ensures d)); kept = λ e. cc })
+    rw (c .before .enum-told .given .1)
+    (record { merged = λ d l h k. ap newInfo (sym (c .adopt-with-local-vote .ensures d)); kept = λ e. cc })
 
 returns-2 : tie.Need-returns-2
 unfolding heardOf
