@@ -13,3 +13,4 @@ pub mod PlanCursor
 pub mod Targets
 pub mod Unpacking
 pub mod Resting
+pub mod Keeping

@@ -233,7 +233,7 @@ other-heard : (ws : List ℕ) (loss : Float) (links : List ℕ) (flooding i : �
 unfolding captureAt
 other-heard ws loss links flooding i p t n = getD-set-other (p .hears) i t (whom (captureOf ws loss links flooding i (p .tally .draw))) 0 n
 
-any-default : (l : List ℕ) (i d e : ℕ) → i < length l → getD l i d ≡ getD l i e
+pub any-default : (l : List ℕ) (i d e : ℕ) → i < length l → getD l i d ≡ getD l i e
 any-default [] i d e h = absurd (omega arith)
 any-default (x ∷ l) zero d e h = refl
 any-default (x ∷ l) (suc i) d e h = any-default l i d e (omega arith)

@@ -192,17 +192,13 @@ through g f h e (suc k) s = e k (upto k f s) ∙ ap (h k) (through g f h e k s)
 -- ---- the rule's merges, position by position
 
 module _ (s : Voting) (hears : List ℕ) (held : List Payload) where
-  abbrev answer : ℕ → Merged
+  abbrev pub answer : ℕ → Merged
   answer i = mergedFrom s held i (getD hears i 0)
-
-  answer-is : (i : ℕ) → hearingOf s hears held i ≡ answer i
-  unfolding hearingOf mergedFrom
-  answer-is i = refl
 
   abbrev start : SlotMerges
   start = record { held = held; «new_info» = 0; «goal_reached» = 0; «can_sleep» = 0 }
 
-  told-held : toldAll s hears held .held ≡ upto (atMost64 (s .n)) (place noPayload (λ i v. answer i .payload)) held
+  pub told-held : toldAll s hears held .held ≡ upto (atMost64 (s .n)) (place noPayload (λ i v. answer i .payload)) held
   unfolding toldAll toldAt hearingOf mergedFrom
   told-held = through (λ (t : SlotMerges). t .held) (toldAt s hears held) (λ i l. set l i (answer i .payload)) (λ i t. refl) (atMost64 (s .n)) start
 

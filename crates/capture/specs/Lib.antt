@@ -5,3 +5,4 @@ pub mod Capture
 pub mod PlanCases
 pub mod Idle
 pub mod Boards
+pub mod Senders
