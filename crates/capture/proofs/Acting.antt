@@ -26,7 +26,7 @@ use Rattle.engines.specs.declared.node.NodeState.the-variants.{Listen, Flood, S
 use Rattle.engines.specs.declared.node.StateSets.{StateSets}
 use Rattle.engines.specs.declared.network.RoundConf.{RoundConf}
 use Rattle.engines.proofs.Cells.{cells-apart, cells-length}
-use Rattle.engines.proofs.Places.{view-get, view-same, view-length}
+use Rattle.engines.proofs.Places.{view-same}
 use Rattle.capture.specs.Plan.{Plan, targetsOf, planOf, Sender, Hears}
 use Rattle.capture.specs.Turns.{News, turnedAll, countedSlot}
 use Rattle.capture.specs.Ce.{SlotMerges, sentOf, toldAll}
@@ -38,11 +38,12 @@ use Rattle.capture.specs.declared.board.CeFixed.{CeFixed}
 use Rattle.capture.specs.declared.plan.SlotPlan.{SlotPlan}
 use Rattle.capture.specs.declared.ce.Told.{Told}
 use Rattle.capture.specs.declared.capture.CeState.{CeState}
-use Rattle.capture.proofs.Viewing.{below, above, sets-is, passed-length, passed-rest, nodes-passed, nodes-ticked}
+use Rattle.capture.proofs.Viewing.{passed-length, passed-rest, nodes-passed, nodes-ticked}
 use Rattle.capture.proofs.Turning.{split-next, nodes-turned}
 use Rattle.capture.proofs.Holding.{held-length, decided-at, goal-is, sent-is, held-kept}
 use Rattle.capture.proofs.Telling.{told-goal, told-rests}
 use Rattle.capture.proofs.Neighbours.{plan-heard, plan-others}
+use Rattle.capture.proofs.Resting as resting
 
 -- what a slot goes by, as the settings have it
 pub goes-as : (P : List ℕ → CeFixed → Type 0) {conf : RoundConf} {links : List ℕ} {f : CeFixed} → Goes conf links f → P links f → P (conf .graph .adj) (fixedOf conf)
@@ -60,21 +61,13 @@ module _ {n : ℕ} {base : CeState} {b : Board} {x : List ℕ} (o : Shown n base
   abbrev nodes : List Node
   nodes = nodesBy n (base .network .nodes) (b .states) (b .«goal_reached») x
 
-  pub node-at : (i : ℕ) → i < atMost64 n → getD nodes i noNode ≡ nodeBy (b .states) (b .«goal_reached») x i (getD (base .network .nodes) i noNode)
-  unfolding nodesBy
-  node-at i h = view-get noNode (base .network .nodes) (atMost64 n) (omega (arith, o .whole)) (nodeBy (b .states) (b .«goal_reached») x) i h
-
-  pub nodes-length : length nodes ≡ 64
-  unfolding nodesBy
-  nodes-length = view-length noNode (base .network .nodes) (atMost64 n) (omega (arith, o .whole)) (nodeBy (b .states) (b .«goal_reached») x) ∙ o .whole
-
   pub states-are : b .states ≡ setsOf n nodes
-  unfolding nodeBy
-  states-are = sets-is n (b .states) (o .split) nodes (λ i h. ap (λ (v : Node). v .state) (node-at i h))
+  unfolding seenBy
+  states-are = resting.sets-shown o
 
   pub last-at : (i : ℕ) → i < atMost64 n → getD nodes i noNode .«last_progress_slot» ≡ cell x lastAt i
-  unfolding nodeBy
-  last-at i h = ap (λ (v : Node). v .«last_progress_slot») (node-at i h)
+  unfolding seenBy
+  last-at i h = resting.last-at o i h
 
   -- a mark of a set of states is a position's
   in-set : (f : NodeState → Bool) (m i : ℕ) → has m i ≡ (ltb i (atMost64 n) && f (stateBy (b .states) i)) → has m i ≡ true → i < atMost64 n
