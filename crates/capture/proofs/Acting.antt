@@ -27,7 +27,7 @@ use Rattle.engines.specs.declared.node.StateSets.{StateSets}
 use Rattle.engines.specs.declared.network.RoundConf.{RoundConf}
 use Rattle.engines.proofs.Cells.{cells-apart, cells-length}
 use Rattle.engines.proofs.Places.{view-same}
-use Rattle.capture.specs.Plan.{Plan, targetsOf, planOf, Sender, Hears}
+use Rattle.capture.specs.Plan.{Plan, targetsOf, targetsIn, planOf, Sender, Hears}
 use Rattle.capture.specs.Turns.{News, turnedAll, countedSlot}
 use Rattle.capture.specs.Ce.{SlotMerges, sentOf, toldAll}
 use Rattle.capture.specs.Capture.{votingOf, begun, goalMet, newsOf, applied, planFor, acted, finished, slotOf}
@@ -164,8 +164,8 @@ module _ (conf : RoundConf) {base : CeState} {b : Board} {x : List ℕ} (o : Sho
     hears-are : hears ≡ plan-hears .hears
     hears-are = ap (λ (z : Plan). z .hears) planned-as
 
-    targets-are : p .targets ≡ targetsOf (b .states .listening) (plan-hears .recovering)
-    targets-are = planned .targets ∙ ap (λ (z : Plan). targetsOf (b .states .listening) (z .recovering)) planned-as
+    targets-are : p .targets ≡ targetsIn (b .states) (plan-hears .recovering)
+    targets-are = planned .targets ∙ ap (λ (z : Plan). targetsIn (b .states) (z .recovering)) planned-as
 
     -- a target listens
     target-listens : (i : ℕ) → has (p .targets) i ≡ true → has (b .states .listening) i ≡ true

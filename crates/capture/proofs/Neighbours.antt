@@ -22,7 +22,7 @@ use Rattle.engines.specs.Clamp.{atMost64}
 use Rattle.engines.specs.Marked.{overMarks, withMark}
 use Rattle.engines.specs.Settings.{isLossy}
 use Rattle.engines.specs.Words.{nextOf, coinOf, pickOf, Order, swapped, swapStep, shuffled}
-use Rattle.capture.specs.Plan.{Plan, timedOut, tossed1, tossAt, coinsOf, Recovers, Senders, noteAt, sendersOf, examine1, isFound, unheard, firstKept, heardFrom, captureOf, whom, Captured, captureAt, targetsOf, noneYet, capturesOf, planAfter, planOf, Sender, Hears}
+use Rattle.capture.specs.Plan.{Plan, timedOut, tossed1, tossAt, coinsOf, Recovers, Senders, noteAt, sendersOf, examine1, isFound, unheard, firstKept, heardFrom, captureOf, whom, Captured, captureAt, targetsIn, noneYet, capturesOf, planAfter, planOf, Sender, Hears}
 use Rattle.engines.proofs.Drawing.{pick-le}
 use Rattle.capture.proofs.Hearing.{examined-more}
 use Rattle.engines.specs.declared.words.Draw.{Draw}
@@ -185,7 +185,7 @@ pub plan-hears : (ws : List ℕ) (loss : Float) (links : List ℕ) (slot timeout
 unfolding planOf planAfter
 plan-hears ws loss links slot timeout nodes s d t =
     let c = coinsOf ws slot timeout nodes (s .listening) d in
-    captures-fair ws loss links (s .flooding) (targetsOf (s .listening) (c .recovering)) (c .draw) .each t
+    captures-fair ws loss links (s .flooding) (targetsIn s (c .recovering)) (c .draw) .each t
 
 -- ---- who recovers
 
@@ -246,13 +246,13 @@ module _ (ws : List ℕ) (loss : Float) (links : List ℕ) (slot timeout : ℕ) 
   unfolding planOf planAfter
   plan-long =
       let c = coinsOf ws slot timeout nodes (s .listening) d in
-      captures-fair ws loss links (s .flooding) (targetsOf (s .listening) (c .recovering)) (c .draw) .long
+      captures-fair ws loss links (s .flooding) (targetsIn s (c .recovering)) (c .draw) .long
 
   pub plan-heard : (t : ℕ) → t < 64 → Hears links (s .flooding) t (getD (plan .hears) t 0)
   plan-heard t h = subst (Hears links (s .flooding) t) (any-default (plan .hears) t 64 0 (omega (arith, plan-long))) (plan-hears ws loss links slot timeout nodes s d t)
 
   -- a position that is no target hears nobody
-  pub plan-others : (t : ℕ) → t < 64 → has (targetsOf (s .listening) (plan .recovering)) t ≡ false → getD (plan .hears) t 0 ≡ 64
+  pub plan-others : (t : ℕ) → t < 64 → has (targetsIn s (plan .recovering)) t ≡ false → getD (plan .hears) t 0 ≡ 64
   unfolding planOf planAfter capturesOf overMarks
   plan-others t h e =
       upto-holds (λ (p : Captured). getD (p .hears) t 0 ≡ 64) (λ i p. either (has targets i) (captureAt ws loss links (s .flooding) i p) p) 64
@@ -262,7 +262,7 @@ module _ (ws : List ℕ) (loss : Float) (links : List ℕ) (slot timeout : ℕ) 
       coins = coinsOf ws slot timeout nodes (s .listening) d
 
       targets : ℕ
-      targets = targetsOf (s .listening) (coins .recovering)
+      targets = targetsIn s (coins .recovering)
 
       by : (i : ℕ) (p : Captured) (b : Bool) → has targets i ≡ b → getD (p .hears) t 0 ≡ 64 → getD (either b (captureAt ws loss links (s .flooding) i p) p .hears) t 0 ≡ 64
       by i p true f q = other-heard ws loss links (s .flooding) i p t (λ z. true≢false (sym f ∙ ap (λ (k : ℕ). has targets k) (sym z) ∙ e)) ∙ q

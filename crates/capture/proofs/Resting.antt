@@ -22,7 +22,7 @@ use Rattle.engines.specs.declared.node.StateSets.{StateSets}
 use Rattle.engines.specs.declared.network.RoundConf.{RoundConf}
 use Rattle.engines.proofs.Marking.{Without}
 use Rattle.engines.proofs.Places.{view-get, view-length}
-use Rattle.capture.specs.Plan.{timedOut, tossed1, tossAt, coinsOf, targetsOf, Captured, captureAt}
+use Rattle.capture.specs.Plan.{timedOut, tossed1, tossAt, coinsOf, targetsIn, Captured, captureAt}
 use Rattle.capture.specs.Idle.{Waits, Idle}
 use Rattle.capture.specs.Boards.{lastAt, stateBy, nodeBy, nodesBy, seenBy, Shown, Goes}
 use Rattle.capture.specs.Boards.{waitingSince, coinsBy, PlannedBy, goalBy}
@@ -56,7 +56,7 @@ coins-same ws slot timeout x nodes listening d at =
 pub planned-by : (ws links : List ℕ) (f : CeFixed) (s : StateSets) (slot : ℕ) (d : Draw) (x hears : List ℕ)
     {c : Coins} {ts k : ℕ} {after : List ℕ} {q : Reception}
     → c ≡ coinsBy ws slot (f .«listen_timeout») x (s .listening) d
-    → ts ≡ targetsOf (s .listening) (c .recovering)
+    → ts ≡ targetsIn s (c .recovering)
     → _≡_ {A = Captured} (record { hears = after; tally = q })
     (overMarks ts (captureAt ws (f .«loss_rate») links (s .flooding))
     (record { hears = hears; tally = record { draw = c .draw; «rx_attempts» = 0; «rx_success» = 0 } }))

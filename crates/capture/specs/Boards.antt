@@ -1,4 +1,5 @@
--- A round inside: sets of positions and a table of numbers, and the state of the rules that they show. No rule of 01 is said here. Assumes nothing.
+-- A round inside: sets of positions and a table of numbers, and the state of the rules that they show. No rule of 01 is
+-- said here: what is said is what the functions of a round owe each other. Assumes nothing.
 use Prim.Native.Nat.{ℕ, _+_, _*_, _%_, _^_, _≤_, _<_}
 use mathlib.Core.Bool.{Bool, true, false, not, _||_, _&&_}
 use mathlib.Core.List.{List, [], _∷_}
@@ -36,7 +37,7 @@ use Rattle.engines.specs.declared.node.StateSets.{StateSets}
 use Rattle.engines.specs.declared.node.NodeState.{NodeState}
 use Rattle.engines.specs.declared.node.NodeState.the-variants.{Listen, Flood, Sleep}
 use Rattle.engines.specs.declared.network.RoundConf.{RoundConf}
-use Rattle.capture.specs.Plan.{Plan, tossed1, targetsOf, planOf}
+use Rattle.capture.specs.Plan.{Plan, tossed1, targetsIn, planOf}
 use Rattle.capture.specs.Turns.{countedSlot}
 use Rattle.capture.specs.Ce.{isNews, notedIf, toldAll}
 use Rattle.capture.specs.Capture.{votingOf, slotOf, over, networkIn, drawIn}
@@ -114,7 +115,8 @@ nodesBy n base s goal x = upto (atMost64 n) (place noNode (nodeBy s goal x)) bas
 
 -- ---- payloads
 
--- whether position i holds a packet, and of what phase. The sets are asked in one order, so nothing has to keep them apart.
+-- whether position i holds a packet, and of what phase. The sets are asked in one order, so nothing has to keep them
+-- apart.
 unfoldable pub holdsBy : Phases → ℕ → Bool
 holdsBy p i = has (p .prepared) i || (has (p .committed) i || has (p .aborted) i)
 
@@ -139,13 +141,15 @@ dataIn base k = getD base (k % 64) noPayload .packet .«proposal_data»
 
 -- a position that holds no packet is as it was when the round began
 unfoldable pub payloadBy : List Payload → Phases → List ℕ → ℕ → Payload → Payload
-payloadBy base p x i v = either (holdsBy p i) (record { held = Packet; packet = packetOf (dataIn base) (slipBy p x i) }) v
+payloadBy base p x i v =
+    either (holdsBy p i) (record { held = Packet; packet = packetOf (dataIn base) (slipBy p x i) }) v
 
 unfoldable pub payloadsBy : ℕ → List Payload → Phases → List ℕ → List Payload
 payloadsBy n base p x = upto (atMost64 n) (place noPayload (payloadBy base p x)) base
 
 -- What positions hold is `held`, told by the phases, the table, and who can sleep by it.
-pub record ShownHeld (n : ℕ) (base : List Payload) (p : Phases) (rests : ℕ) (x : List ℕ) (held : List Payload) : Type 0 where
+pub record ShownHeld (n : ℕ) (base : List Payload) (p : Phases) (rests : ℕ) (x : List ℕ)
+    (held : List Payload) : Type 0 where
   pub whole : length base ≡ 64
   pub table : length x ≡ tableCells
   pub kinds : (i : ℕ) → i < atMost64 n → holdsBy p i ≡ false → getD base i noPayload .held ≡ heldBy p i
@@ -174,7 +178,8 @@ seenBy n base b x =
       ended = b .ended;
     }
 
--- Board and table show the state c. A function on them is right if it turns what shows c into what shows the rule's answer for c.
+-- Board and table show the state c. A function on them is right if it turns what shows c into what shows the rule's
+-- answer for c.
 pub record Shown (n : ℕ) (base : CeState) (b : Board) (x : List ℕ) (c : CeState) : Type 0 where
   pub whole : length (base .network .nodes) ≡ 64
   pub split : Split n (b .states)
@@ -183,15 +188,23 @@ pub record Shown (n : ℕ) (base : CeState) (b : Board) (x : List ℕ) (c : CeSt
 
 -- what a slot goes by, beside the links
 abbrev pub fixedOf : RoundConf → CeFixed
-fixedOf conf = record { voting = votingOf conf; «loss_rate» = conf .settings .«loss_rate»; «listen_timeout» = conf .settings .«listen_timeout»; interval = conf .interval }
+fixedOf conf =
+    record {
+      voting = votingOf conf;
+      «loss_rate» = conf .settings .«loss_rate»;
+      «listen_timeout» = conf .settings .«listen_timeout»;
+      interval = conf .interval;
+    }
 
+-- links and f are what a round by `conf` goes by
 pub record Goes (conf : RoundConf) (links : List ℕ) (f : CeFixed) : Type 0 where
   pub adj : conf .graph .adj ≡ links
   pub fixed : fixedOf conf ≡ f
 
 -- ---- a round begins
 
--- the numbers of position i, column by column: the round's start as its last progress, its counts, what it holds, its own data
+-- the numbers of position i, column by column: the round's start as its last progress, its counts, what it holds, its
+-- own data
 abbrev pub rowFor : ℕ → ℕ → Node → Payload → List ℕ
 rowFor slot i v l =
     slot
@@ -221,12 +234,14 @@ pub record NotedAt (p : Phases) (i : ℕ) (held : Held) (f : TwoPcPhase) (r : Ph
 pub record Taken (n i : ℕ) (base : CeState) (s : Noted) (x : List ℕ) : Type 0 where
   pub table : length x ≡ tableCells
   pub cells : (j : ℕ) → j < i → (k : ℕ) → k < 9
-      → cell x (64 * k) j ≡ getD (rowFor (base .network .slot) j (getD (base .network .nodes) j noNode) (getD (base .held) j noPayload)) k 0
+      → cell x (64 * k) j
+      ≡ getD (rowFor (base .network .slot) j (getD (base .network .nodes) j noNode) (getD (base .held) j noPayload)) k 0
   pub short : (j : ℕ) → j < i → dataLen (getD (base .held) j noPayload .packet .«proposal_data») ≤ 129
   pub goal : (j : ℕ) → j < i → has (s .«goal_reached») j ≡ getD (base .network .nodes) j noNode .«goal_reached»
   pub rests : (j : ℕ) → j < i → has (s .«can_sleep») j ≡ canSleepOf n (getD (base .held) j noPayload)
   pub held : (j : ℕ) → heldBy (s .phases) j ≡ either (ltb j i) (getD (base .held) j noPayload .held) Empty
-  pub phase : (j : ℕ) → j < i → getD (base .held) j noPayload .held ≡ Packet → phaseBy (s .phases) j ≡ getD (base .held) j noPayload .packet .phase
+  pub phase : (j : ℕ) → j < i → getD (base .held) j noPayload .held ≡ Packet
+      → phaseBy (s .phases) j ≡ getD (base .held) j noPayload .packet .phase
 
 -- who floods and who listens in the first slot
 pub record FirstStates (n initiator : ℕ) (s : StateSets) : Type 0 where
@@ -253,7 +268,8 @@ waitingSince last =
 -- the coins of a slot, by the table
 unfoldable pub coinsBy : List ℕ → ℕ → ℕ → List ℕ → ℕ → Draw → Coins
 coinsBy ws slot timeout x listening d =
-    overMarks listening (λ i c. tossed1 ws slot timeout (waitingSince (cell x lastAt i)) i c) (record { recovering = 0; draw = d })
+    overMarks listening (λ i c. tossed1 ws slot timeout (waitingSince (cell x lastAt i)) i c)
+    (record { recovering = 0; draw = d })
 
 -- the rules' plan
 abbrev pub planBy : SlotPlan → List ℕ → Plan
@@ -267,9 +283,12 @@ planBy p hears =
       «rx_success» = p .«rx_success»;
     }
 
-pub record PlannedBy (ws links : List ℕ) (f : CeFixed) (s : StateSets) (slot : ℕ) (d : Draw) (x hears : List ℕ) (r : SlotPlan) (after : List ℕ) : Type 0 where
-  pub targets : r .targets ≡ targetsOf (s .listening) (r .recovering)
-  pub plan : (nodes : List Node) → hears ≡ replicate 64 64 → ((i : ℕ) → has (s .listening) i ≡ true → getD nodes i noNode .«last_progress_slot» ≡ cell x lastAt i)
+-- whom each position hears is `after`, and what else the words decide is r
+pub record PlannedBy (ws links : List ℕ) (f : CeFixed) (s : StateSets) (slot : ℕ) (d : Draw) (x hears : List ℕ)
+    (r : SlotPlan) (after : List ℕ) : Type 0 where
+  pub targets : r .targets ≡ targetsIn s (r .recovering)
+  pub plan : (nodes : List Node) → hears ≡ replicate 64 64
+      → ((i : ℕ) → has (s .listening) i ≡ true → getD nodes i noNode .«last_progress_slot» ≡ cell x lastAt i)
       → planBy r after ≡ planOf ws (f .«loss_rate») links slot (f .«listen_timeout») nodes s d
 
 -- ---- bytes
@@ -278,18 +297,22 @@ pub record PlannedBy (ws links : List ℕ) (f : CeFixed) (s : StateSets) (slot :
 unfoldable pub lengthBy : Phases → List ℕ → ℕ → ℕ
 lengthBy p x i =
     either (holdsBy p i)
-    (partsLen (cell x termAt i) (phaseBy p i) (cell x dataAt (cell x fromAt i % 64)) (record { len = cell x lenAt i; marks = cell x marksAt i })) 0
+    (partsLen (cell x termAt i) (phaseBy p i) (cell x dataAt (cell x fromAt i % 64))
+    (record { len = cell x lenAt i; marks = cell x marksAt i }))
+    0
 
 unfoldable pub sentBy : ℕ → Phases → List ℕ → ℕ
 sentBy flooding p x = overMarks flooding (λ i sum. (sum + lengthBy p x i) % 2 ^ 64) 0
 
 -- ---- merges, in place
 
+-- a phase that is a decision
 abbrev pub decidedBy : TwoPcPhase → Bool
 decidedBy Prepare = false
 decidedBy Committed = true
 decidedBy Aborted = true
 
+-- who holds this can sleep: a decision that all are known to hold
 abbrev pub restsBy : ℕ → Slip → Bool
 restsBy n s = decidedBy (s .phase) && unanimousOf n (s .«flags_bitmap»)
 
@@ -300,19 +323,25 @@ pub record Written (n : ℕ) (t : Told) (i : ℕ) (s : Slip) (x : List ℕ) (r :
   pub news : r .«new_info» ≡ withMark (t .«new_info») i
   pub table : y ≡ rowPut termAt i (s .term ∷ s .«flags_bitmap» .len ∷ s .«flags_bitmap» .marks ∷ s .source ∷ []) x
 
--- position i merges what src holds now
+-- what position i makes of what src holds now; 64 is nobody
 unfoldable pub mergedFrom : Voting → List Payload → ℕ → ℕ → Merged
-mergedFrom s held i src = either (ltb src 64) (mergeOf (noOf s) (s .n) i (getD held i noPayload) (getD held src noPayload)) (redundant (getD held i noPayload))
+mergedFrom s held i src =
+    either (ltb src 64)
+    (mergeOf (noOf s) (s .n) i (getD held i noPayload) (getD held src noPayload))
+    (redundant (getD held i noPayload))
 
 -- the numbers of the first four columns are as they were
 abbrev pub Kept : List ℕ → List ℕ → Type 0
 Kept x y = (q : ℕ) → q < termAt → getD y q 0 ≡ getD x q 0
 
+-- position i merges what src holds now
 pub record ToldOne (s : Voting) (t : Told) (i src : ℕ) (x : List ℕ) (r : Told) (y : List ℕ) : Type 0 where
   pub kept : Kept x y
-  pub news : (base held : List Payload) → i < atMost64 (s .n) → (src < 64 → src < atMost64 (s .n)) → ShownHeld (s .n) base (t .phases) (t .«can_sleep») x held
+  pub news : (base held : List Payload) → i < atMost64 (s .n) → (src < 64 → src < atMost64 (s .n))
+      → ShownHeld (s .n) base (t .phases) (t .«can_sleep») x held
       → r .«new_info» ≡ notedIf (isNews (mergedFrom s held i src .result)) i (t .«new_info»)
-  pub shown : (base held : List Payload) → i < atMost64 (s .n) → (src < 64 → src < atMost64 (s .n)) → ShownHeld (s .n) base (t .phases) (t .«can_sleep») x held
+  pub shown : (base held : List Payload) → i < atMost64 (s .n) → (src < 64 → src < atMost64 (s .n))
+      → ShownHeld (s .n) base (t .phases) (t .«can_sleep») x held
       → ShownHeld (s .n) base (r .phases) (r .«can_sleep») y (set held i (mergedFrom s held i src .payload))
 
 -- The targets are positions, and hear positions that are no targets; nobody else hears anybody.
@@ -322,32 +351,46 @@ pub record Apart (n : ℕ) (hears : List ℕ) (targets : ℕ) : Type 0 where
   pub silent : (i : ℕ) → has targets i ≡ true → getD hears i 0 < 64 → has targets (getD hears i 0) ≡ false
   pub others : (i : ℕ) → i < 64 → has targets i ≡ false → ltb (getD hears i 0) 64 ≡ false
 
-pub record ToldAll (s : Voting) (targets : ℕ) (hears : List ℕ) (t : Told) (x : List ℕ) (r : Told) (y : List ℕ) : Type 0 where
+-- each target merges what it heard
+pub record ToldAll (s : Voting) (targets : ℕ) (hears : List ℕ) (t : Told) (x : List ℕ)
+    (r : Told) (y : List ℕ) : Type 0 where
   pub kept : Kept x y
-  pub news : (base held : List Payload) → Apart (s .n) hears targets → t .«new_info» ≡ 0 → ShownHeld (s .n) base (t .phases) (t .«can_sleep») x held
+  pub news : (base held : List Payload) → Apart (s .n) hears targets → t .«new_info» ≡ 0
+      → ShownHeld (s .n) base (t .phases) (t .«can_sleep») x held
       → (j : ℕ) → has (r .«new_info») j ≡ has (toldAll s hears held .«new_info») j
-  pub shown : (base held : List Payload) → Apart (s .n) hears targets → t .«new_info» ≡ 0 → ShownHeld (s .n) base (t .phases) (t .«can_sleep») x held
+  pub shown : (base held : List Payload) → Apart (s .n) hears targets → t .«new_info» ≡ 0
+      → ShownHeld (s .n) base (t .phases) (t .«can_sleep») x held
       → ShownHeld (s .n) base (r .phases) (r .«can_sleep») y (toldAll s hears held .held)
 
 -- ---- states
 
 -- k slots in which no state changes
 unfoldable pub passedCells : StateSets → ℕ → List ℕ → List ℕ
-passedCells s k x = raisedBy sleepAt (s .sleeping) k (raisedBy floodAt (s .flooding) k (raisedBy listenAt (s .listening) k x))
+passedCells s k x =
+    raisedBy sleepAt (s .sleeping) k (raisedBy floodAt (s .flooding) k (raisedBy listenAt (s .listening) k x))
 
 -- the sets of the next slot, mark by mark
 pub record Changed (s : StateSets) (progressed rests : ℕ) (r : StateSets) : Type 0 where
-  pub listening : (i : ℕ) → has (r .listening) i ≡ ((has (s .listening) i || has (s .flooding) i) && not (has progressed i || has rests i))
+  pub listening : (i : ℕ)
+      → has (r .listening) i ≡ ((has (s .listening) i || has (s .flooding) i) && not (has progressed i || has rests i))
   pub flooding : (i : ℕ)
-      → has (r .flooding) i ≡ (((has (s .listening) i || has (s .flooding) i) || has (s .sleeping) i) && ((has progressed i && not (has rests i)) || (has rests i && not (has (s .flooding) i))))
-  pub sleeping : (i : ℕ) → has (r .sleeping) i ≡ ((has rests i && has (s .flooding) i) || (has (s .sleeping) i && not (has progressed i || has rests i)))
+      → has (r .flooding) i
+      ≡ (((has (s .listening) i || has (s .flooding) i) || has (s .sleeping) i)
+      && ((has progressed i && not (has rests i)) || (has rests i && not (has (s .flooding) i))))
+  pub sleeping : (i : ℕ)
+      → has (r .sleeping) i
+      ≡ ((has rests i && has (s .flooding) i) || (has (s .sleeping) i && not (has progressed i || has rests i)))
 
-pub record TurnedBy (b : Board) (interval : ℕ) (p : SlotPlan) (sent : ℕ) (t : Told) (x : List ℕ) (r : Board) (y : List ℕ) : Type 0 where
+-- what plan and merges of a slot make of board and table
+pub record TurnedBy (b : Board) (interval : ℕ) (p : SlotPlan) (sent : ℕ) (t : Told) (x : List ℕ)
+    (r : Board) (y : List ℕ) : Type 0 where
   pub progressed : ℕ
   pub marks : (i : ℕ) → has progressed i ≡ (has (p .recovering) i || has (t .«new_info») i)
   pub table : y ≡ storedAs lastAt progressed (b .slot) x
   pub states : Changed (b .states) progressed (t .«can_sleep») (r .states)
-  pub goal : (i : ℕ) → has (r .«goal_reached») i ≡ either (has (t .«new_info») i) (has (t .phases .committed) i || has (t .phases .aborted) i) (has (b .«goal_reached») i)
+  pub goal : (i : ℕ)
+      → has (r .«goal_reached») i
+      ≡ either (has (t .«new_info») i) (has (t .phases .committed) i || has (t .phases .aborted) i) (has (b .«goal_reached») i)
   pub phases : r .phases ≡ t .phases
   pub rests : r .«can_sleep» ≡ t .«can_sleep»
   pub metrics : (hears : List ℕ) → r .metrics ≡ countedSlot (planBy p hears) (b .metrics)
@@ -359,8 +402,11 @@ pub record TurnedBy (b : Board) (interval : ℕ) (p : SlotPlan) (sent : ℕ) (t 
 
 -- ---- the goal, and slots
 
+-- all of the first n positions hold Committed, or all hold Aborted
 unfoldable pub goalBy : ℕ → Phases → Bool
-goalBy n p = (ltb 0 n && leb n positions) && (allOf n (λ i. has (p .committed) i) || allOf n (λ i. has (p .aborted) i && not (has (p .committed) i)))
+goalBy n p =
+    (ltb 0 n && leb n positions)
+    && (allOf n (λ i. has (p .committed) i) || allOf n (λ i. has (p .aborted) i && not (has (p .committed) i)))
 
 -- the round ends at the next slot
 abbrev pub endedBy : ℕ → Board → Board
@@ -390,7 +436,8 @@ rowBy b top =
     }
 
 -- a step from c, with so many slots left: what is shown then, and that it is a step of the rules
-pub record Advanced (ws : List ℕ) (conf : RoundConf) (base : CeState) (left : ℕ) (c : CeState) (r : CeStep) (y : List ℕ) : Type 0 where
+pub record Advanced (ws : List ℕ) (conf : RoundConf) (base : CeState) (left : ℕ) (c : CeState)
+    (r : CeStep) (y : List ℕ) : Type 0 where
   pub state : CeState
   pub shown : Shown (conf .graph .n) base (r .board) y state
   pub stepped : Stepped networkIn over (slotOf ws conf) conf left c (r .left) state

@@ -112,6 +112,10 @@ captureAt ws loss links flooding t p = heardAt t p (captureOf ws loss links floo
 unfoldable pub targetsOf : ℕ → ℕ → ℕ
 targetsOf listening recovering = marks 64 (λ t. has listening t && not (has recovering t))
 
+-- .. of a slot with these states
+abbrev pub targetsIn : StateSets → ℕ → ℕ
+targetsIn s recovering = targetsOf (s .listening) recovering
+
 abbrev pub noneYet : Draw → Captured
 noneYet d = record { hears = replicate 64 64; tally = record { draw = d; «rx_attempts» = 0; «rx_success» = 0 } }
 
@@ -142,7 +146,7 @@ planned c p =
     }
 
 unfoldable pub planAfter : List ℕ → Float → List ℕ → StateSets → Coins → Plan
-planAfter ws loss links s c = planned c (capturesOf ws loss links (targetsOf (s .listening) (c .recovering)) (s .flooding) (c .draw))
+planAfter ws loss links s c = planned c (capturesOf ws loss links (targetsIn s (c .recovering)) (s .flooding) (c .draw))
 
 -- The plan of a slot: coins, then captures. Every recovery counts as one timeout.
 unfoldable pub planOf : List ℕ → Float → List ℕ → ℕ → ℕ → List Node → StateSets → Draw → Plan

@@ -15,7 +15,10 @@ use Rattle.capture.specs.declared.capture.CeState.{CeState}
 unfoldable pub heardIn : List ℕ → RoundConf → CeState → ℕ → ℕ
 heardIn ws conf c t = getD (planFor ws conf (begun conf c) .hears) t 64
 
--- A slot from any state, whatever the words: who floods in it hears nobody, and a position that another hears holds afterwards what it held when the slot began.
+-- A slot from any state, whatever the words: who floods in it hears nobody, and a position that another hears holds
+-- afterwards what it held when the slot began.
 pub record SendersKeep (ws : List ℕ) (conf : RoundConf) (c : CeState) : Type 0 where
-  pub deaf : (s : ℕ) → has (setsOf (conf .graph .n) (begun conf c .network .nodes) .flooding) s ≡ true → heardIn ws conf c s ≡ 64
-  pub keeps : (t s : ℕ) → heardIn ws conf c t ≡ s → s < 64 → getD (slotOf ws conf c .held) s noPayload ≡ getD (c .held) s noPayload
+  pub deaf : (s : ℕ) → has (setsOf (conf .graph .n) (begun conf c .network .nodes) .flooding) s ≡ true
+      → heardIn ws conf c s ≡ 64
+  pub keeps : (t s : ℕ) → heardIn ws conf c t ≡ s → s < 64
+      → getD (slotOf ws conf c .held) s noPayload ≡ getD (c .held) s noPayload

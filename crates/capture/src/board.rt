@@ -1,6 +1,6 @@
-// A capture round inside: sets of positions, a mark each, and a lent table of numbers, a column of 64 for each thing that is kept
-// of a position. So a slot costs what happens in it, and copies neither positions nor payloads. specs/Boards.antt tells which
-// state of the rules board and table show.
+// A capture round inside: sets of positions, a mark each, and a lent table of numbers, a column of 64 for each thing
+// that is kept of a position. So a slot costs what happens in it, and copies neither positions nor payloads.
+// specs/Boards.antt tells which state of the rules board and table show.
 ghost use mathlib.Core.Path.{_≡_};
 ghost use mathlib.Core.Bool.{true, false, _||_};
 ghost use Prim.Native.Nat.{ℕ, _<_, _≤_};
@@ -38,8 +38,8 @@ use packets::Data;
 use packets::TwoPcPhase;
 use packets::len;
 
-// Where the columns start: last progress, the three counts, the parts of what is held, and the length of the data's text of what
-// was held when the round began.
+// Where the columns start: last progress, the three counts, the parts of what is held, and the length of the data's
+// text of what was held when the round began.
 pub(crate) const LAST: usize = 0;
 
 pub(crate) const LISTEN: usize = 64;
@@ -66,8 +66,8 @@ pub struct Phases {
     pub unreadable: u64,
 }
 
-// A round between two slots, but for the table: who is in which state, who has reached its goal, who holds what, who can sleep by
-// what it holds; and the numbers of the network, the cursor, and whether the goal test was passed.
+// A round between two slots, but for the table: who is in which state, who has reached its goal, who holds what, who
+// can sleep by what it holds; and the numbers of the network, the cursor, and whether the goal test was passed.
 pub struct Board {
     pub states: StateSets,
     pub goal_reached: u64,

@@ -154,7 +154,8 @@ pub struct CeRun {
     pub due: u64,
 }
 
-// The round without its rows, and how many are due. Once words have run short the rest is not run: a round may have four billion slots, and a lack stays noted.
+// The round without its rows, and how many are due. Once words have run short the rest is not run: a round may have
+// four billion slots, and a lack stays noted.
 fn dry_run(
     words: &[u64],
     links: &[u64; 64],
@@ -197,7 +198,8 @@ fn row_of(b: Board, top: u64) -> Row
     }
 }
 
-// The round again, for its rows alone, as many as the part that is lent holds. Slots behind the last row are not run again.
+// The round again, for its rows alone, as many as the part that is lent holds. Slots behind the last row are not run
+// again.
 fn record_run(
     words: &[u64],
     part: &mut [u64],
@@ -242,7 +244,8 @@ pub struct CeSurvey {
     pub due: u64,
 }
 
-// A round as far as it must be run to tell its refusals: the last initiator floods, all others listen, and words are drawn from the cursor on.
+// A round as far as it must be run to tell its refusals: the last initiator floods, all others listen, and words are
+// drawn from the cursor on.
 fn survey(words: &[u64], conf: RoundConf, c: CeState, initiator: usize, cursor: usize) -> CeSurvey
     ensures { λ r. ⌜ Surveyed networkIn over (slotOf (now (words .entry)) conf) conf drawIn (conf .length) (startOf conf initiator cursor c) (r .state) (r .due) ⌝ }
 {
@@ -298,8 +301,8 @@ fn refuse(refusal: u64, c: CeState, used: usize) -> CeAnswer
     }
 }
 
-// A round from slot to slot, its rows written behind the rows already used. A refused round changes nothing. The rows due are counted first, and the round is
-// run again only for them.
+// A round from slot to slot, its rows written behind the rows already used. A refused round changes nothing. The rows
+// due are counted first, and the round is run again only for them.
 pub fn run_ce_round(
     words: &[u64],
     rows: &mut [u64],

@@ -1,5 +1,5 @@
-// Stretches of a capture round in which nobody acts: nobody floods, no coin is due, no row is due, and all that slots do is raise counts. A round may have
-// four billion such slots, so they are taken at once.
+// Stretches of a capture round in which nobody acts: nobody floods, no coin is due, no row is due, and all that slots
+// do is raise counts. A round may have four billion such slots, so they are taken at once.
 ghost use mathlib.Core.Path.{_≡_};
 ghost use mathlib.Core.Bool.{true, false};
 ghost use mathlib.Core.List.{List};
@@ -63,7 +63,8 @@ pub(crate) fn goal_reached(n: usize, p: Phases) -> bool
     sets::all_marked(sets::difference(p.aborted, p.committed), n)
 }
 
-// How many of the next slots nobody acts in, out of those that are left. None where one is not sure: one that can sleep would flood in the next slot.
+// How many of the next slots nobody acts in, out of those that are left. None where one is not sure: one that can
+// sleep would flood in the next slot.
 pub(crate) fn idle_slots(f: CeFixed, b: Board, table: &[u64; 576], left: u64) -> u64
     requires { ⌜ b .ended ≡ false ⌝ }
     ensures { λ r. ⌜ r ≤ left ⌝ }

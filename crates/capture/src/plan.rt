@@ -1,5 +1,5 @@
-// The plan of a capture slot: which positions recover, and whom each target hears. It takes every word that the slot takes,
-// and needs states, last progress and links alone; what is merged by it comes after.
+// The plan of a capture slot: which positions recover, and whom each target hears. It takes every word that the slot
+// takes, and needs states, last progress and links alone; what is merged by it comes after.
 ghost use mathlib.Core.Path.{_≡_};
 ghost use Prim.Native.Nat.{_+_, _-_, _<_, _≤_};
 ghost use Rattle.loops.specs.Pick.{either};
@@ -35,8 +35,8 @@ pub struct Reception {
     pub rx_success: u64,
 }
 
-// What the words of a slot decide, beside whom each position hears: a mark for each that recovers, the targets, and the slot's
-// counts.
+// What the words of a slot decide, beside whom each position hears: a mark for each that recovers, the targets, and
+// the slot's counts.
 pub struct SlotPlan {
     pub recovering: u64,
     pub targets: u64,

@@ -1,5 +1,5 @@
-// The states of a capture round in the next slot, told from what the slot brought each position. Ported from ce.rs; what comes
-// from packets comes in as sets of positions.
+// The states of a capture round in the next slot, told from what the slot brought each position. Ported from ce.rs;
+// what comes from packets comes in as sets of positions.
 ghost use mathlib.Core.Path.{_≡_};
 ghost use Prim.Native.Nat.{ℕ};
 ghost use Rattle.loops.specs.Pick.{either};
@@ -22,8 +22,8 @@ use engines::node::StateSets;
 use engines::rows;
 use graph::sets;
 
-// The sets of the next slot: who can sleep sleeps if it flooded, and else floods; of the others who progressed floods, who slept
-// sleeps on, and the rest listens.
+// The sets of the next slot: who can sleep sleeps if it flooded, and else floods; of the others who progressed
+// floods, who slept sleeps on, and the rest listens.
 fn change(s: StateSets, progressed: u64, can_sleep: u64) -> StateSets
     ensures { λ r. ⌜ Changed s progressed «can_sleep» r ⌝ }
 {

@@ -60,7 +60,8 @@ pub fn tick(conf: RoundConf, w: Network) -> Network
 
 // ---- refusals of a round
 
-// The refusal that is known before a round runs: its full length would pass the last slot. A difference stands for the sum, which could wrap.
+// The refusal that is known before a round runs: its full length would pass the last slot. A difference stands for
+// the sum, which could wrap.
 pub fn long_refusal(conf: RoundConf, slot: u64) -> u64
     ensures { λ r. ⌜ r ≡ longRefusal conf slot ⌝ }
 {
@@ -106,8 +107,8 @@ pub fn put_due(rows: &mut [u64], at: usize, slot: u64, r: Row) -> usize
     at + limits::ROW
 }
 
-// The row of the slot that begins, if one is due and there is place for it behind the first `at` numbers; how many numbers are used then. A row shows the
-// positions ticked.
+// The row of the slot that begins, if one is due and there is place for it behind the first `at` numbers; how many
+// numbers are used then. A row shows the positions ticked.
 pub fn write_row(rows: &mut [u64], at: usize, conf: RoundConf, w: Network) -> usize
     ensures { λ r. ⌜ r ≡ writtenEnd (length (now (rows .entry))) at (slotRow conf w) ⌝ }
     ensures { λ _. ⌜ now (rows .exit) ≡ writtenAt (now (rows .entry)) at (slotRow conf w) ⌝ }
