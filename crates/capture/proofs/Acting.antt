@@ -1,25 +1,22 @@
 -- A slot on board and table is a slot of the rules. Assumes nothing.
-use Prim.Native.Nat.{ℕ, _+_, _%_, _^_, _≤_, _<_}
+use Prim.Native.Nat.{ℕ, _+_, _≤_, _<_}
 use mathlib.Core.Bool.{Bool, true, false, true≢false, not, _||_, _&&_}
 use mathlib.Core.List.{List}
-use mathlib.Core.Logic.{_⊎_, inl, inr}
+use mathlib.Core.Logic.{inl, inr}
 use mathlib.Core.Path.{_≡_, refl, sym, ap, subst, _∙_}
 use lib.Dec.{ltb}
 use lib.ListN.{length, getD, replicate}
 use native.Mathlib.Omega.{arith}
-use borrow.Author.Tests.{lt-ltb, le-ltb, ltb-true, ltb-false}
+use borrow.Author.Tests.{le-ltb, ltb-true}
 use Rattle.loops.specs.Pick.{either}
 use Rattle.loops.specs.Wrap.{add64}
 use Rattle.marks.specs.Marks.{has}
 use Rattle.marks.specs.Sets.{and-true, has-marks}
-use Rattle.merges.specs.Merging.{noPayload, networkGoalOf}
-use Rattle.merges.specs.declared.merging.Payload.{Payload}
+use Rattle.merges.specs.Merging.{networkGoalOf}
 use Rattle.engines.specs.Clamp.{atMost64}
 use Rattle.engines.specs.Columns.{cell, storedAs}
-use Rattle.engines.specs.Nodes.{inc, noNode, isListen, isFlood, setsOf}
+use Rattle.engines.specs.Nodes.{noNode, isListen, isFlood, setsOf}
 use Rattle.engines.specs.Network.{ticking}
-use Rattle.engines.specs.Rows.{nextRow}
-use Rattle.engines.specs.declared.words.Draw.{Draw}
 use Rattle.engines.specs.declared.node.Node.{Node}
 use Rattle.engines.specs.declared.node.NodeState.{NodeState}
 use Rattle.engines.specs.declared.node.NodeState.the-variants.{Listen, Flood, Sleep}
@@ -27,12 +24,12 @@ use Rattle.engines.specs.declared.node.StateSets.{StateSets}
 use Rattle.engines.specs.declared.network.RoundConf.{RoundConf}
 use Rattle.engines.proofs.Cells.{cells-apart, cells-length}
 use Rattle.engines.proofs.Places.{view-same}
-use Rattle.capture.specs.Plan.{Plan, targetsOf, targetsIn, planOf, Sender, Hears}
-use Rattle.capture.specs.Turns.{News, turnedAll, countedSlot}
+use Rattle.capture.specs.Plan.{Plan, targetsOf, targetsIn, planOf, Hears}
+use Rattle.capture.specs.Turns.{News, turnedAll}
 use Rattle.capture.specs.Ce.{SlotMerges, sentOf, toldAll}
-use Rattle.capture.specs.Capture.{votingOf, begun, goalMet, newsOf, applied, planFor, acted, finished, slotOf}
+use Rattle.capture.specs.Capture.{votingOf, begun, goalMet, newsOf, applied, planFor, acted, finished}
 use Rattle.capture.specs.Idle.{idled}
-use Rattle.capture.specs.Boards.{lastAt, stateBy, Split, nodeBy, nodesBy, payloadsBy, ShownHeld, seenBy, Shown, fixedOf, Goes, planBy, PlannedBy, sentBy, Kept, Apart, ToldAll, passedCells, TurnedBy, goalBy, endedBy}
+use Rattle.capture.specs.Boards.{lastAt, stateBy, nodeBy, nodesBy, ShownHeld, seenBy, Shown, fixedOf, Goes, planBy, PlannedBy, sentBy, Apart, ToldAll, passedCells, TurnedBy, goalBy, endedBy}
 use Rattle.capture.specs.declared.board.Board.{Board}
 use Rattle.capture.specs.declared.board.CeFixed.{CeFixed}
 use Rattle.capture.specs.declared.plan.SlotPlan.{SlotPlan}
@@ -149,17 +146,17 @@ module _ (conf : RoundConf) {base : CeState} {b : Board} {x : List ℕ} (o : Sho
     abbrev c : CeState
     c = seenBy n base b x
 
-    plan-is : planBy p hears ≡ planFor ws conf c
-    unfolding seenBy
-    plan-is =
-        planned .plan (nodes o) refl (λ i q. last-at o i (listens-in o i q))
-        ∙ ap (λ (s : StateSets). planOf ws (conf .settings .«loss_rate») (conf .graph .adj) (b .slot) (conf .settings .«listen_timeout») (nodes o) s (b .draw)) (states-are o)
-
     abbrev plan-hears : Plan
     plan-hears = planOf ws (conf .settings .«loss_rate») (conf .graph .adj) (b .slot) (conf .settings .«listen_timeout») (nodes o) (b .states) (b .draw)
 
     planned-as : planBy p hears ≡ plan-hears
     planned-as = planned .plan (nodes o) refl (λ i q. last-at o i (listens-in o i q))
+
+    plan-is : planBy p hears ≡ planFor ws conf c
+    unfolding seenBy
+    plan-is =
+        planned-as
+        ∙ ap (λ (s : StateSets). planOf ws (conf .settings .«loss_rate») (conf .graph .adj) (b .slot) (conf .settings .«listen_timeout») (nodes o) s (b .draw)) (states-are o)
 
     hears-are : hears ≡ plan-hears .hears
     hears-are = ap (λ (z : Plan). z .hears) planned-as

@@ -2,21 +2,19 @@
 use Prim.Native.Nat.{ℕ, zero, suc, _+_, _*_, _%_, _^_, _≤_, _<_}
 use mathlib.Core.Bool.{Bool, true, false, true≢false, not, _||_, _&&_}
 use mathlib.Core.List.{List, [], _∷_}
-use mathlib.Core.Logic.{_⊎_, inl, inr}
 use mathlib.Core.Path.{_≡_, refl, sym, ap, _∙_}
 use lib.Dec.{eqb, leb, ltb}
-use lib.ListN.{length, set, getD, length-set}
-use lib.Seq.{set-getD, getD-set-same, getD-set-other}
+use lib.ListN.{length, set, getD}
+use lib.Seq.{getD-set-same, getD-set-other}
 use native.Mathlib.Nat.{mod-eq-of-lt}
 use native.Mathlib.Omega.{arith}
-use borrow.Author.Tests.{eqb-true, eqb-false, ltb-true, ltb-false, lt-ltb, leb-true, eq-eqb, ne-eqb}
+use borrow.Author.Tests.{eqb-true, eqb-false, leb-true, eq-eqb, ne-eqb}
 use Rattle.limits.specs.Limits.{positions}
 use Rattle.loops.specs.Pick.{either}
-use Rattle.loops.specs.Upto.{upto, upto-same}
+use Rattle.loops.specs.Upto.{upto-same}
 use Rattle.marks.specs.Marks.{has, allOf}
 use Rattle.packets.specs.Packets.{ceText, ceWithin}
 use Rattle.packets.specs.Writing.{textLen, dataLen, partsLen}
-use Rattle.packets.specs.declared.Data.{Data}
 use Rattle.packets.specs.declared.CeTwoPcPacket.{CeTwoPcPacket}
 use Rattle.packets.specs.declared.TwoPcPhase.{TwoPcPhase}
 use Rattle.packets.specs.declared.TwoPcPhase.the-variants.{Prepare, Committed, Aborted}
@@ -28,12 +26,12 @@ use Rattle.merges.specs.declared.merging.Held.{Held}
 use Rattle.merges.specs.declared.merging.Held.the-variants.{Empty, Unreadable, Packet}
 use Rattle.merges.specs.declared.merging.Payload.{Payload}
 use Rattle.engines.specs.Clamp.{atMost64}
-use Rattle.engines.specs.Marked.{overMarks, place}
-use Rattle.engines.specs.Columns.{cell, rowPut}
+use Rattle.engines.specs.Marked.{overMarks}
+use Rattle.engines.specs.Columns.{cell}
 use Rattle.engines.proofs.Cells.{row-length, row-other, row-own}
-use Rattle.engines.proofs.Places.{view-get, view-same, view-put, view-length, view-later}
+use Rattle.engines.proofs.Places.{view-get, view-same, view-put, view-length}
 use Rattle.capture.specs.Ce.{lenBy, payloadLen, sentAt, sentOf}
-use Rattle.capture.specs.Boards.{termAt, lenAt, marksAt, fromAt, dataAt, holdsBy, phaseBy, heldBy, slipBy, dataIn, payloadBy, payloadsBy, ShownHeld, PutPhase, lengthBy, sentBy, decidedBy, restsBy, Kept, Written, goalBy}
+use Rattle.capture.specs.Boards.{termAt, lenAt, marksAt, fromAt, dataAt, holdsBy, phaseBy, heldBy, slipBy, dataIn, payloadBy, payloadsBy, ShownHeld, lengthBy, sentBy, decidedBy, restsBy, Written, goalBy}
 use Rattle.capture.specs.declared.board.Phases.{Phases}
 use Rattle.capture.specs.declared.ce.Told.{Told}
 
@@ -43,7 +41,7 @@ abbrev holding : CeTwoPcPacket → Payload
 holding p = record { held = Packet; packet = p }
 
 -- a test of what is held
-abbrev packet : Held → Bool
+abbrev pub packet : Held → Bool
 packet Empty = false
 packet Unreadable = false
 packet Packet = true

@@ -1,8 +1,8 @@
 -- Who is heard hears nobody, and so keeps what it holds. Assumes nothing.
-use Prim.Native.Nat.{ℕ, zero, suc, _≤_, _<_}
+use Prim.Native.Nat.{ℕ, zero, suc, _<_}
 use mathlib.Core.Bool.{Bool, true, false, true≢false, not, _&&_}
 use mathlib.Core.List.{List}
-use mathlib.Core.Logic.{_⊎_, inl, inr}
+use mathlib.Core.Logic.{inl, inr}
 use mathlib.Core.Path.{_≡_, refl, sym, ap, _∙_}
 use lib.Dec.{eqb, ltb}
 use lib.ListN.{length, set, getD}
@@ -11,7 +11,7 @@ use native.Mathlib.Omega.{arith}
 use borrow.Author.Tests.{eqb-true, eqb-false, ltb-true, ltb-false}
 use Rattle.loops.specs.Pick.{either}
 use Rattle.loops.specs.Upto.{upto}
-use Rattle.marks.specs.Marks.{has, marks}
+use Rattle.marks.specs.Marks.{has}
 use Rattle.marks.specs.Sets.{and-true, has-marks}
 use Rattle.merges.specs.Merging.{noPayload, networkGoalOf}
 use Rattle.merges.specs.declared.merging.Payload.{Payload}
@@ -22,7 +22,7 @@ use Rattle.engines.specs.declared.node.Node.{Node}
 use Rattle.engines.specs.declared.node.NodeState.{NodeState}
 use Rattle.engines.specs.declared.node.NodeState.the-variants.{Listen, Flood, Sleep}
 use Rattle.engines.specs.declared.network.RoundConf.{RoundConf}
-use Rattle.capture.specs.Plan.{targetsOf, Sender, Hears}
+use Rattle.capture.specs.Plan.{targetsOf, Hears}
 use Rattle.capture.specs.Ce.{toldAll}
 use Rattle.capture.specs.Capture.{votingOf, begun, goalMet, planFor, acted, finished, slotOf}
 use Rattle.capture.specs.Senders.{heardIn, SendersKeep}

@@ -171,6 +171,25 @@ pub record SmallBoard (b : Board) : Type 0 where
   pub attempts : b .metrics .«rx_attempts» < 2 ^ 64
   pub success : b .metrics .«rx_success» < 2 ^ 64
 
+-- ---- what the board says of the state that it shows
+
+module _ {n : ℕ} {base : CeState} {b : Board} {x : List ℕ} {c : CeState} (o : Shown n base b x c) where
+  pub ended-is : c .ended ≡ b .ended
+  unfolding seenBy
+  ended-is = ap (λ (z : CeState). z .ended) (sym (o .sees))
+
+  pub short-is : c .draw .short ≡ b .draw .short
+  unfolding seenBy
+  short-is = ap (λ (z : CeState). z .draw .short) (sym (o .sees))
+
+  pub slot-is : c .network .slot ≡ b .slot
+  unfolding seenBy
+  slot-is = ap (λ (z : CeState). z .network .slot) (sym (o .sees))
+
+  pub row-is : c .network .«next_row» ≡ b .«next_row»
+  unfolding seenBy
+  row-is = ap (λ (z : CeState). z .network .«next_row») (sym (o .sees))
+
 -- what a board and a table have to say for k slots in which nobody acts
 pub record Rests (f : CeFixed) (b : Board) (x : List ℕ) (k : ℕ) : Type 0 where
   pub small : SmallBoard b
@@ -198,18 +217,6 @@ module _ (conf : RoundConf) (base c : CeState) (links : List ℕ) (f : CeFixed) 
         success = rw (sym e) (q .small .success);
       }
 
-  slot-shown : c .network .slot ≡ b .slot
-  unfolding seenBy
-  slot-shown = ap (λ (s : CeState). s .network .slot) (sym (o .sees))
-
-  row-shown : c .network .«next_row» ≡ b .«next_row»
-  unfolding seenBy
-  row-shown = ap (λ (s : CeState). s .network .«next_row») (sym (o .sees))
-
-  going-shown : c .ended ≡ false
-  unfolding seenBy
-  going-shown = ap (λ (s : CeState). s .ended) (sym (o .sees)) ∙ q .going
-
   count-is : f .voting .n ≡ n
   count-is = ap (λ (h : CeFixed). h .voting .n) (sym (g .fixed))
 
@@ -223,7 +230,7 @@ module _ (conf : RoundConf) (base c : CeState) (links : List ℕ) (f : CeFixed) 
         early = λ l.
             let e = below i (atMost64 n) (isListen (stateBy (b .states) i)) h (o .split .listening i) in
             let p = q .waits i (e ∙ sym (ap isListen (state-at o i h)) ∙ l) in
-            omega (arith, last-at o i h, slot-shown, timeout-is);
+            omega (arith, last-at o i h, slot-is o, timeout-is);
       }
 
   -- then nobody acts by the rules
@@ -231,8 +238,8 @@ module _ (conf : RoundConf) (base c : CeState) (links : List ℕ) (f : CeFixed) 
   rests-idle =
       record {
         small = small-shown;
-        going = going-shown;
-        rows = omega (arith, slot-shown, row-shown, q .rows);
+        going = ended-is o ∙ q .going;
+        rows = omega (arith, slot-is o, row-is o, q .rows);
         goal = sym (goal-is (o .held)) ∙ ap (λ (m : ℕ). goalBy m (b .phases)) (sym count-is) ∙ q .goal;
         silent = ap (λ (s : StateSets). s .flooding) (sym (sets-shown o)) ∙ q .silent;
         waits = wait-shown;

@@ -1,24 +1,22 @@
 -- Runs of slots on board and table: the invariants of the loop that counts rows and of the loop that writes them. Assumes nothing.
-use Prim.Native.Nat.{ℕ, max, _+_, _-_, _^_, _≤_, _<_}
-use mathlib.Core.Bool.{Bool, true, false}
+use Prim.Native.Nat.{ℕ, max, _-_, _^_, _≤_, _<_}
+use mathlib.Core.Bool.{true, false}
 use mathlib.Core.List.{List}
-use mathlib.Core.Path.{_≡_, refl, sym, ap, subst, _∙_}
+use mathlib.Core.Path.{_≡_, refl, ap, _∙_}
 use lib.Dec.{ltb}
 use lib.ListN.{length, getD}
 use native.Mathlib.Omega.{arith}
 use Rattle.loops.specs.Upto.{upto-same}
 use Rattle.loops.specs.Runs.{runs}
-use Rattle.loops.specs.Wrap.{add64}
 use Rattle.engines.specs.Clamp.{atMost64}
 use Rattle.engines.specs.Network.{dueRow, slotRow, writtenAt, writtenEnd}
-use Rattle.engines.specs.Nodes.{noNode, setsOf, ticked, tickedIn, tickedAll}
+use Rattle.engines.specs.Nodes.{noNode, ticked, tickedIn, tickedAll}
 use Rattle.engines.specs.declared.node.NodeState.{NodeState}
 use Rattle.engines.specs.declared.node.NodeState.the-variants.{Listen, Flood, Sleep}
 use Rattle.engines.specs.Rows.{highestProgress, rowOf, dueAfter}
-use Rattle.engines.specs.Rounds.{placed, Stepped, Surveyed}
+use Rattle.engines.specs.Rounds.{placed, Surveyed}
 use Rattle.engines.specs.declared.rows.Row.{Row}
 use Rattle.engines.specs.declared.node.Node.{Node}
-use Rattle.engines.specs.declared.node.StateSets.{StateSets}
 use Rattle.engines.specs.declared.network.RoundConf.{RoundConf}
 use Rattle.engines.proofs.Rounds.{Counted, counted-turn, counted-stop, counted-none, counted-short, stepped-slot}
 use Rattle.engines.proofs.Rounds as rounds
@@ -26,35 +24,15 @@ use Rattle.engines.proofs.Writing.{Put}
 use Rattle.engines.proofs.Stretches.{tick-sets, tick-get}
 use Rattle.capture.specs.Capture.{over, networkIn, drawIn, slotOf, rowsOf}
 use Rattle.capture.specs.Idle.{Idle, idled}
-use Rattle.capture.specs.Boards.{nodeBy, nodesBy, seenBy, Shown, Goes, passedCells, rowBy, Advanced, Ran}
+use Rattle.capture.specs.Boards.{nodeBy, seenBy, Shown, passedCells, rowBy, Advanced, Ran}
 use Rattle.capture.specs.declared.board.Board.{Board}
-use Rattle.capture.specs.declared.board.CeFixed.{CeFixed}
 use Rattle.capture.specs.declared.capture.CeState.{CeState}
 use Rattle.capture.specs.declared.capture.CeStep.{CeStep}
 use Rattle.capture.specs.declared.capture.CeRun.{CeRun}
 use Rattle.capture.proofs.Idling.{stepped-idle}
 use Rattle.capture.proofs.Shortage.{short-stays}
 use Rattle.capture.proofs.Acting.{later, slot-idled}
-use Rattle.capture.proofs.Resting.{nodes-long, node-at, sets-shown}
-
--- ---- what the board says of the state that it shows
-
-module _ {n : ℕ} {base : CeState} {b : Board} {x : List ℕ} {c : CeState} (o : Shown n base b x c) where
-  pub ended-is : c .ended ≡ b .ended
-  unfolding seenBy
-  ended-is = ap (λ (z : CeState). z .ended) (sym (o .sees))
-
-  pub short-is : c .draw .short ≡ b .draw .short
-  unfolding seenBy
-  short-is = ap (λ (z : CeState). z .draw .short) (sym (o .sees))
-
-  pub slot-is : c .network .slot ≡ b .slot
-  unfolding seenBy
-  slot-is = ap (λ (z : CeState). z .network .slot) (sym (o .sees))
-
-  pub row-is : c .network .«next_row» ≡ b .«next_row»
-  unfolding seenBy
-  row-is = ap (λ (z : CeState). z .network .«next_row») (sym (o .sees))
+use Rattle.capture.proofs.Resting.{nodes-long, node-at, sets-shown, ended-is, short-is, slot-is, row-is}
 
 -- ---- a step
 

@@ -1,21 +1,20 @@
 -- Merges in place are the merges of the rule, since no position that is heard hears anybody. Assumes nothing.
-use Prim.Native.Nat.{ℕ, zero, suc, _+_, _*_, _≤_, _<_}
+use Prim.Native.Nat.{ℕ, zero, suc, _≤_, _<_}
 use mathlib.Core.Bool.{Bool, true, false, true≢false, not, _||_, _&&_}
 use mathlib.Core.List.{List, [], _∷_}
 use mathlib.Core.Logic.{_⊎_, inl, inr}
 use mathlib.Core.Path.{_≡_, refl, sym, ap, _∙_}
 use lib.Dec.{eqb, ltb}
-use lib.ListN.{length, set, getD, length-set}
-use lib.Seq.{set-getD, getD-set-same, getD-set-other, ext-getD}
+use lib.ListN.{length, set, getD}
+use lib.Seq.{set-getD, getD-set-other, ext-getD}
 use native.Mathlib.Omega.{arith}
-use borrow.Author.Tests.{eq-eqb, ne-eqb, eqb-true, eqb-false, ltb-true, ltb-false, lt-ltb, le-ltb}
+use borrow.Author.Tests.{eqb-true, eqb-false, ltb-true, ltb-false, lt-ltb, le-ltb}
 use Rattle.loops.specs.Pick.{either}
 use Rattle.loops.specs.Upto.{upto, upto-same}
 use Rattle.marks.specs.Marks.{has, marks}
-use Rattle.marks.specs.Laws.{has-none}
 use Rattle.marks.specs.Sets.{and-true, has-marks, grown-none}
 use Rattle.merges.specs.Votes.{noOf}
-use Rattle.merges.specs.Merging.{noPayload, mergeOf, mergedBy, heardOf, newInfo, redundant, goalOf, canSleepOf}
+use Rattle.merges.specs.Merging.{noPayload, mergeOf, mergedBy, newInfo, redundant, goalOf, canSleepOf}
 use Rattle.merges.specs.Slips.{packetOf, HeardBy}
 use Rattle.merges.specs.declared.votes.Voting.{Voting}
 use Rattle.merges.specs.declared.merging.Draft.{Draft}
@@ -31,11 +30,11 @@ use Rattle.engines.specs.Columns.{cell, rowPut}
 use Rattle.engines.proofs.Cells.{row-before}
 use Rattle.engines.proofs.Marking.{Without, over-turn, over-none, over-through}
 use Rattle.engines.proofs.Places.{over-get, over-length, view-get, view-later, view-length}
-use Rattle.capture.specs.Ce.{SlotMerges, isNews, hearingOf, notedIf, toldAt, toldAll}
-use Rattle.capture.specs.Boards.{fromAt, holdsBy, heldBy, slipBy, dataIn, ShownHeld, Kept, Written, mergedFrom, ToldOne, Apart, ToldAll}
+use Rattle.capture.specs.Ce.{SlotMerges, isNews, hearingOf, notedIf, toldAt, toldAll, mergedFrom}
+use Rattle.capture.specs.Boards.{fromAt, holdsBy, heldBy, slipBy, dataIn, ShownHeld, Written, ToldOne, Apart}
 use Rattle.capture.specs.declared.board.Phases.{Phases}
 use Rattle.capture.specs.declared.ce.Told.{Told}
-use Rattle.capture.proofs.Holding.{held-length, kind-at, packet-at, none-at, held-written}
+use Rattle.capture.proofs.Holding.{packet, kind-at, packet-at, none-at, held-written}
 
 -- ---- one merge
 
@@ -52,7 +51,6 @@ told-none s t i src x e =
 
 -- who hears nobody
 pub nobody-heard : (s : Voting) (held : List Payload) (i src : ℕ) → 64 ≤ src → mergedFrom s held i src ≡ redundant (getD held i noPayload)
-unfolding mergedFrom
 nobody-heard s held i src h = rw (le-ltb src 64 h)
 
 module _ (s : Voting) {base : List Payload} {p : Phases} {rests : ℕ} {x : List ℕ} {held : List Payload} (o : ShownHeld (s .n) base p rests x held) (i src : ℕ) (k : src < atMost64 (s .n)) where
@@ -61,38 +59,23 @@ module _ (s : Voting) {base : List Payload} {p : Phases} {rests : ℕ} {x : List
 
   -- what is heard is no packet
   pub nothing-heard : holdsBy p src ≡ false → mergedFrom s held i src ≡ redundant (getD held i noPayload)
-  unfolding mergedFrom mergeOf mergedBy
+  unfolding mergeOf mergedBy
   nothing-heard q = rw (lt-ltb src 64 (omega arith)) (by (getD held src noPayload .held) refl)
     where
       by : (a : Held) → getD held src noPayload .held ≡ a → mergedBy (noOf s) (s .n) i (getD held i noPayload) (getD held src noPayload .packet) a ≡ redundant (getD held i noPayload)
       by Empty e = refl
       by Unreadable e = refl
-      by Packet e = absurd (true≢false (sym (ap held-packet e) ∙ none-at o src k q))
-        where
-          held-packet : Held → Bool
-          held-packet Empty = false
-          held-packet Unreadable = false
-          held-packet Packet = true
+      by Packet e = absurd (true≢false (sym (ap packet e) ∙ none-at o src k q))
 
   -- what is heard is a packet: the merge on slips tells it
   module _ (h : i < atMost64 (s .n)) (q : holdsBy p src ≡ true) (m : Draft) (w : HeardBy (noOf s) (s .n) i (heldBy p i) (slipBy p x i) (slipBy p x src) m) where
     held-there : (t u : Bool) → either t Packet (either u Unreadable Empty) ≡ Packet → t ≡ true
     held-there true u e = refl
-    held-there false true e = absurd (let z : _≡_ {A = Bool} true false = ap (λ (a : Held). other a) e in true≢false z)
-      where
-        other : Held → Bool
-        other Empty = true
-        other Unreadable = true
-        other Packet = false
-    held-there false false e = absurd (let z : _≡_ {A = Bool} true false = ap (λ (a : Held). other a) e in true≢false z)
-      where
-        other : Held → Bool
-        other Empty = true
-        other Unreadable = true
-        other Packet = false
+    held-there false true e = absurd (true≢false (sym (ap packet e)))
+    held-there false false e = absurd (true≢false (sym (ap packet e)))
 
     pub packet-heard : mergedFrom s held i src ≡ either (m .news) (newInfo (packetOf (dataIn base) (m .slip))) (redundant (getD held i noPayload))
-    unfolding mergedFrom mergeOf mergedBy heldBy
+    unfolding mergeOf mergedBy heldBy
     packet-heard =
         rw (lt-ltb src 64 (omega arith), packet-at o src k q, kind-at o i h)
         (w .merged (dataIn base) (getD held i noPayload) (kind-at o i h)
@@ -199,11 +182,11 @@ module _ (s : Voting) (hears : List ℕ) (held : List Payload) where
   start = record { held = held; «new_info» = 0; «goal_reached» = 0; «can_sleep» = 0 }
 
   pub told-held : toldAll s hears held .held ≡ upto (atMost64 (s .n)) (place noPayload (λ i v. answer i .payload)) held
-  unfolding toldAll toldAt hearingOf mergedFrom
+  unfolding toldAll toldAt hearingOf
   told-held = through (λ (t : SlotMerges). t .held) (toldAt s hears held) (λ i l. set l i (answer i .payload)) (λ i t. refl) (atMost64 (s .n)) start
 
   pub told-news : (j : ℕ) → has (toldAll s hears held .«new_info») j ≡ (ltb j (atMost64 (s .n)) && isNews (answer j .result))
-  unfolding toldAll toldAt hearingOf mergedFrom
+  unfolding toldAll toldAt hearingOf
   told-news j =
       ap (λ (m : ℕ). has m j) (through (λ (t : SlotMerges). t .«new_info») (toldAt s hears held) (λ i m. notedIf (isNews (answer i .result)) i m) (λ i t. refl) (atMost64 (s .n)) start)
       ∙ noted-all (λ i. isNews (answer i .result)) (atMost64 (s .n)) j (omega arith)
@@ -213,13 +196,13 @@ module _ (s : Voting) (hears : List ℕ) (held : List Payload) where
     told-get j h = ap (λ (l : List Payload). getD l j noPayload) told-held ∙ view-get noPayload held (atMost64 (s .n)) (omega arith) (λ i v. answer i .payload) j h
 
     pub told-goal : (j : ℕ) → j < atMost64 (s .n) → has (toldAll s hears held .«goal_reached») j ≡ goalOf (getD (toldAll s hears held .held) j noPayload)
-    unfolding toldAll toldAt hearingOf mergedFrom
+    unfolding toldAll toldAt hearingOf
     told-goal j h =
         ap (λ (m : ℕ). has m j) (through (λ (t : SlotMerges). t .«goal_reached») (toldAt s hears held) (λ i m. notedIf (goalOf (answer i .payload)) i m) (λ i t. refl) (atMost64 (s .n)) start)
         ∙ noted-all (λ i. goalOf (answer i .payload)) (atMost64 (s .n)) j (omega arith) ∙ rw (lt-ltb j (atMost64 (s .n)) h) (ap goalOf (sym (told-get j h)))
 
     pub told-rests : (j : ℕ) → j < atMost64 (s .n) → has (toldAll s hears held .«can_sleep») j ≡ canSleepOf (s .n) (getD (toldAll s hears held .held) j noPayload)
-    unfolding toldAll toldAt hearingOf mergedFrom
+    unfolding toldAll toldAt hearingOf
     told-rests j h =
         ap (λ (m : ℕ). has m j) (through (λ (t : SlotMerges). t .«can_sleep») (toldAt s hears held) (λ i m. notedIf (canSleepOf (s .n) (answer i .payload)) i m) (λ i t. refl) (atMost64 (s .n)) start)
         ∙ noted-all (λ i. canSleepOf (s .n) (answer i .payload)) (atMost64 (s .n)) j (omega arith) ∙ rw (lt-ltb j (atMost64 (s .n)) h) (ap (canSleepOf (s .n)) (sym (told-get j h)))
@@ -239,7 +222,6 @@ tellAt s hears i t =
 
 -- the answer depends on what the two hold, and on nothing else
 merged-same : (s : Voting) (a b : List Payload) (i src : ℕ) → getD a i noPayload ≡ getD b i noPayload → (src < 64 → getD a src noPayload ≡ getD b src noPayload) → mergedFrom s a i src ≡ mergedFrom s b i src
-unfolding mergedFrom
 merged-same s a b i src e f = by (ltb src 64) refl
   where
     by : (t : Bool) → ltb src 64 ≡ t → either t (mergeOf (noOf s) (s .n) i (getD a i noPayload) (getD a src noPayload)) (redundant (getD a i noPayload)) ≡ either t (mergeOf (noOf s) (s .n) i (getD b i noPayload) (getD b src noPayload)) (redundant (getD b i noPayload))

@@ -8,10 +8,8 @@ use lib.ListN.{length, getD}
 use native.Mathlib.Omega.{arith}
 use borrow.Author.Tests.{ltb-true, ltb-false}
 use Rattle.loops.specs.Pick.{either}
-use Rattle.loops.specs.Upto.{upto}
 use Rattle.marks.specs.Marks.{has}
 use Rattle.engines.specs.Clamp.{atMost64}
-use Rattle.engines.specs.Marked.{place}
 use Rattle.engines.specs.Columns.{cell, storedAs}
 use Rattle.engines.specs.Nodes.{noNode, isListen, isFlood, isSleep}
 use Rattle.engines.specs.declared.node.Node.{Node}
@@ -20,7 +18,7 @@ use Rattle.engines.specs.declared.node.NodeState.{NodeState}
 use Rattle.engines.specs.declared.node.NodeState.the-variants.{Listen, Flood, Sleep}
 use Rattle.engines.proofs.Cells.{cells-own, cells-other}
 use Rattle.engines.proofs.Places.{view-step}
-use Rattle.capture.specs.Turns.{News, nextState, turned, turnOf, turnAt, turnedAll}
+use Rattle.capture.specs.Turns.{News, nextState, turned, turnOf, turnedAll}
 use Rattle.capture.specs.Boards.{lastAt, listenAt, floodAt, sleepAt, stateBy, Split, nodeBy, nodesBy, Changed}
 use Rattle.capture.proofs.Viewing.{below, above}
 

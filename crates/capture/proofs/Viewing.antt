@@ -1,22 +1,18 @@
 -- What board and table show, position by position; and what slots in which no state changes do to it. Assumes nothing.
-use Prim.Native.Nat.{ℕ, zero, suc, _+_, _-_, _*_, _%_, _/_, _^_, _≤_, _<_}
+use Prim.Native.Nat.{ℕ, zero, suc, _+_, _-_, _/_, _^_, _≤_, _<_}
 use mathlib.Core.Bool.{Bool, true, false, _&&_}
 use mathlib.Core.List.{List}
 use mathlib.Core.Path.{_≡_, refl, sym, ap, _∙_}
 use lib.Dec.{ltb}
 use lib.ListN.{length, getD}
 use native.Mathlib.Omega.{arith}
-use borrow.Author.Tests.{lt-ltb, le-ltb, ltb-true, ltb-false}
+use borrow.Author.Tests.{lt-ltb, le-ltb, ltb-true}
 use Rattle.loops.specs.Pick.{either}
-use Rattle.loops.specs.Upto.{upto}
 use Rattle.loops.specs.Wrap.{add64}
 use Rattle.marks.specs.Marks.{has, marks}
 use Rattle.marks.specs.Laws.{same, has-half, has-none}
 use Rattle.marks.specs.Sets.{marks-is}
-use Rattle.merges.specs.Merging.{noPayload}
-use Rattle.merges.specs.declared.merging.Payload.{Payload}
 use Rattle.engines.specs.Clamp.{atMost64}
-use Rattle.engines.specs.Marked.{place}
 use Rattle.engines.specs.Columns.{cell, raisedBy}
 use Rattle.engines.specs.Nodes.{noNode, isListen, isFlood, isSleep, listens, floods, sleeps, setsOf, ticked, tickAt, tickedAll}
 use Rattle.engines.specs.Stretch.{passed, passedAll}
@@ -25,9 +21,8 @@ use Rattle.engines.specs.declared.node.StateSets.{StateSets}
 use Rattle.engines.specs.declared.node.NodeState.{NodeState}
 use Rattle.engines.specs.declared.node.NodeState.the-variants.{Listen, Flood, Sleep}
 use Rattle.engines.proofs.Cells.{cells-own, cells-other, cells-apart, cells-length}
-use Rattle.engines.proofs.Places.{view-get, view-step, view-same, view-length}
-use Rattle.capture.specs.Boards.{lastAt, listenAt, floodAt, sleepAt, termAt, lenAt, marksAt, fromAt, dataAt, stateBy, Split, nodeBy, nodesBy, holdsBy, phaseBy, slipBy, dataIn, payloadBy, payloadsBy, ShownHeld, passedCells}
-use Rattle.capture.specs.declared.board.Phases.{Phases}
+use Rattle.engines.proofs.Places.{view-step}
+use Rattle.capture.specs.Boards.{lastAt, listenAt, floodAt, sleepAt, stateBy, Split, nodeBy, nodesBy, passedCells}
 
 -- ---- words
 

@@ -39,7 +39,7 @@ use Rattle.engines.specs.declared.node.NodeState.the-variants.{Listen, Flood, S
 use Rattle.engines.specs.declared.network.RoundConf.{RoundConf}
 use Rattle.capture.specs.Plan.{Plan, tossed1, targetsIn, planOf}
 use Rattle.capture.specs.Turns.{countedSlot}
-use Rattle.capture.specs.Ce.{isNews, notedIf, toldAll}
+use Rattle.capture.specs.Ce.{isNews, mergedFrom, notedIf, toldAll}
 use Rattle.capture.specs.Capture.{votingOf, slotOf, over, networkIn, drawIn}
 use Rattle.capture.specs.declared.plan.Coins.{Coins}
 use Rattle.capture.specs.declared.plan.SlotPlan.{SlotPlan}
@@ -322,13 +322,6 @@ pub record Written (n : ℕ) (t : Told) (i : ℕ) (s : Slip) (x : List ℕ) (r :
   pub rests : (j : ℕ) → has (r .«can_sleep») j ≡ either (eqb j i) (restsBy n s) (has (t .«can_sleep») j)
   pub news : r .«new_info» ≡ withMark (t .«new_info») i
   pub table : y ≡ rowPut termAt i (s .term ∷ s .«flags_bitmap» .len ∷ s .«flags_bitmap» .marks ∷ s .source ∷ []) x
-
--- what position i makes of what src holds now; 64 is nobody
-unfoldable pub mergedFrom : Voting → List Payload → ℕ → ℕ → Merged
-mergedFrom s held i src =
-    either (ltb src 64)
-    (mergeOf (noOf s) (s .n) i (getD held i noPayload) (getD held src noPayload))
-    (redundant (getD held i noPayload))
 
 -- the numbers of the first four columns are as they were
 abbrev pub Kept : List ℕ → List ℕ → Type 0

@@ -42,12 +42,16 @@ abbrev pub isNews : MergeResult → Bool
 isNews Redundant = false
 isNews NewInfo = true
 
--- Position i merges what the position that it hears held at the slot's start; who hears nobody (64) keeps what it holds.
-unfoldable pub hearingOf : Voting → List ℕ → List Payload → ℕ → Merged
-hearingOf s hears held i =
-    either (ltb (getD hears i 0) 64)
-    (mergeOf (noOf s) (s .n) i (getD held i noPayload) (getD held (getD hears i 0) noPayload))
+-- what position i makes of what position src holds; who hears nobody (64) keeps what it holds
+abbrev pub mergedFrom : Voting → List Payload → ℕ → ℕ → Merged
+mergedFrom s held i src =
+    either (ltb src 64)
+    (mergeOf (noOf s) (s .n) i (getD held i noPayload) (getD held src noPayload))
     (redundant (getD held i noPayload))
+
+-- Position i merges what the position that it hears held at the slot's start.
+unfoldable pub hearingOf : Voting → List ℕ → List Payload → ℕ → Merged
+hearingOf s hears held i = mergedFrom s held i (getD hears i 0)
 
 -- What positions hold after a slot, and a mark for each whose merge was new to it, who then has reached its goal, and who can sleep by what it holds.
 pub record SlotMerges : Type 0 where

@@ -1,8 +1,8 @@
 // A capture round inside: sets of positions, a mark each, and a lent table of numbers, a column of 64 for each thing
-// that is kept of a position. So a slot costs what happens in it, and copies neither positions nor payloads.
+// that is kept of a position. So a slot copies neither positions nor payloads.
 // specs/Boards.antt tells which state of the rules board and table show.
 ghost use mathlib.Core.Path.{_≡_};
-ghost use mathlib.Core.Bool.{true, false, _||_};
+ghost use mathlib.Core.Bool.{true, false};
 ghost use Prim.Native.Nat.{ℕ, _<_, _≤_};
 ghost use lib.Dec.{eqb};
 ghost use lib.ListN.{length};
@@ -115,7 +115,7 @@ pub(crate) fn holds(p: Phases, i: usize) -> bool
     sets::is_marked(p.aborted, i)
 }
 
-pub(crate) fn phase_by(p: Phases, i: usize) -> TwoPcPhase
+fn phase_by(p: Phases, i: usize) -> TwoPcPhase
     ensures { λ r. ⌜ r ≡ phaseBy p i ⌝ }
 {
     if sets::is_marked(p.committed, i) {

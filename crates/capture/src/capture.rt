@@ -239,13 +239,12 @@ pub struct CeAnswer {
 }
 
 // A round that was run, as the rules have it, and how many rows are due.
-pub struct CeSurvey {
-    pub state: CeState,
-    pub due: u64,
+struct CeSurvey {
+    state: CeState,
+    due: u64,
 }
 
-// A round as far as it must be run to tell its refusals: the last initiator floods, all others listen, and words are
-// drawn from the cursor on.
+// The round without its rows: the initiator floods, all others listen, and words are drawn from the cursor on.
 fn survey(words: &[u64], conf: RoundConf, c: CeState, initiator: usize, cursor: usize) -> CeSurvey
     ensures { λ r. ⌜ Surveyed networkIn over (slotOf (now (words .entry)) conf) conf drawIn (conf .length) (startOf conf initiator cursor c) (r .state) (r .due) ⌝ }
 {

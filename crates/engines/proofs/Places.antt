@@ -113,54 +113,6 @@ pub over-length : {A : Type 0} (d : A) (f : ℕ → A → A) (m : ℕ) (l : List
 unfolding overMarks
 over-length d f m l = local-length d _ _ (marked-local d (place d f) f m (place-local d f)) l 64
 
--- THE LAW for a loop in place whose turn also reads another place of the list: where no place that is read changes, all is read as it was
--- before the loop.
-module _ {A : Type 0} (d : A) (src : ℕ → ℕ) (f : ℕ → A → A → A) (m : ℕ) (apart : (i : ℕ) → has m i ≡ true → has m (src i) ≡ false) (l : List A) where
-  -- a turn with what is read now, and with what was read before
-  abbrev reading : ℕ → List A → List A
-  reading i t = set t i (f i (getD t (src i) d) (getD t i d))
-
-  abbrev before : ℕ → A → A
-  before i x = f i (getD l (src i) d) x
-
-  unmarked : (n j : ℕ) → has m j ≡ false → getD (upto n (λ i t. either (has m i) (place d before i t) t) l) j d ≡ getD l j d
-  unfolding upto
-  unmarked zero j h = refl
-  unmarked (suc n) j h = by (eqb j n) refl ∙ unmarked n j h
-    where
-      turns : List A
-      turns = upto n (λ i t. either (has m i) (place d before i t) t) l
-
-      by : (t : Bool) → eqb j n ≡ t → getD (either (has m n) (place d before n turns) turns) j d ≡ getD turns j d
-      by true e = rw (ap (λ (x : ℕ). has m x) (sym (eqb-true j n e)) ∙ h)
-      by false e = marked-local d (place d before) before m (place-local d before) .other n turns j (eqb-false j n e)
-
-  in-place : (n : ℕ) → upto n (λ i t. either (has m i) (reading i t) t) l ≡ upto n (λ i t. either (has m i) (place d before i t) t) l
-  unfolding upto
-  in-place zero = refl
-  in-place (suc n) = rw (in-place n) (by (has m n) refl)
-    where
-      turns : List A
-      turns = upto n (λ i t. either (has m i) (place d before i t) t) l
-
-      by : (t : Bool) → has m n ≡ t → either t (reading n turns) turns ≡ either t (place d before n turns) turns
-      by true e = ap (λ (x : A). set turns n (f n x (getD turns n d))) (unmarked n (src n) (apart n e))
-      by false e = refl
-
-  pub over-from : overMarks m reading l ≡ overMarks m (place d before) l
-  unfolding overMarks
-  over-from = in-place 64
-
-  -- and it is the loop over all places, where the others stay as they are
-  pub over-all : length l ≡ 64 → (g : ℕ → A → A) → ((i : ℕ) → i < 64 → has m i ≡ true → g i (getD l i d) ≡ before i (getD l i d)) → ((i : ℕ) → i < 64 → has m i ≡ false → g i (getD l i d) ≡ getD l i d) → overMarks m reading l ≡ upto 64 (place d g) l
-  unfolding overMarks
-  over-all h g on off =
-      in-place 64 ∙ local-same d _ _ _ _ (marked-local d (place d before) before m (place-local d before)) (place-local d g) l 64 (omega arith) (λ i k. by i k (has m i) refl)
-    where
-      by : (i : ℕ) → i < 64 → (t : Bool) → has m i ≡ t → either t (before i (getD l i d)) (getD l i d) ≡ g i (getD l i d)
-      by i k true e = sym (on i k e)
-      by i k false e = sym (off i k e)
-
 -- ---- a list that is put together place by place, from one that is as long
 
 module _ {A : Type 0} (d : A) (base : List A) (n : ℕ) (h : n ≤ length base) where

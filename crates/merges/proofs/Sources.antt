@@ -1,6 +1,6 @@
 -- The data of a merge's answer are those of one of the two packets that met. Assumes nothing.
 use mathlib.Core.Path.{_≡_, refl, sym, ap, _∙_}
-use mathlib.Core.Bool.{Bool, true, false}
+use mathlib.Core.Bool.{Bool, true, false, true≢false}
 use mathlib.Core.List.{[]}
 use mathlib.Core.Logic.{_⊎_, inl, inr}
 use Prim.Native.Nat.{ℕ}
@@ -15,10 +15,12 @@ use Rattle.merges.specs.declared.merging.Held.{Held}
 use Rattle.merges.specs.declared.merging.Held.the-variants.{Empty, Unreadable, Packet}
 use Rattle.merges.specs.declared.merging.Payload.{Payload}
 use Rattle.merges.specs.declared.merging.Merged.{Merged}
+use Rattle.merges.specs.declared.merging.MergeResult.{MergeResult}
+use Rattle.merges.specs.declared.merging.MergeResult.the-variants.{Redundant, NewInfo}
 use Rattle.merges.specs.declared.merging.Slip.{Slip}
 use Rattle.merges.specs.declared.merging.Draft as slips
 use Rattle.merges.specs.Slips.{packetOf, HeardBy}
-use Rattle.merges.specs.Merging.{Draft, Noes, rankOf, ensureOf, decidedOf, acknowledgedOf, voicedOf, settledOf, settled, adoptedOf, raisedOf, ownOf, sameTermOf, newInfo, redundant, concluded, outdated, unanimousOf, heardOf}
+use Rattle.merges.specs.Merging.{Draft, Noes, rankOf, ensureOf, decidedOf, acknowledgedOf, voicedOf, settledOf, adoptedOf, raisedOf, ownOf, sameTermOf, newInfo, redundant, outdated, unanimousOf, heardOf}
 
 abbrev data-of : CeTwoPcPacket → Data
 data-of p = p .«proposal_data»
@@ -106,3 +108,33 @@ module _ (nay : Noes) (n v : ℕ) where
           from : From l (packetOf labels received) (heardOf nay n v l (packetOf labels received) held) → (r .slip .source ≡ local .source) ⊎ (r .slip .source ≡ received .source)
           from (inl q) = inl (label ∙ ap (λ (d : Data). d .len) q)
           from (inr q) = inr (label ∙ ap (λ (d : Data). d .len) q)
+
+  -- an answer is the only one
+  pub heard-one : (held : Held) (local received : Slip) (r s : slips.Draft) → HeardBy nay n v held local received r → HeardBy nay n v held local received s → r ≡ s
+  heard-one held local received r s h k = by (r .news) refl (s .news) refl
+    where
+      l : Payload
+      l = record { held = held; packet = packetOf labels local }
+
+      same : either (r .news) (newInfo (packetOf labels (r .slip))) (redundant l) ≡ either (s .news) (newInfo (packetOf labels (s .slip))) (redundant l)
+      same = sym (h .merged labels l refl (λ _. refl)) ∙ k .merged labels l refl (λ _. refl)
+
+      -- a slip by the packet that it stands for
+      slip-of : CeTwoPcPacket → Slip
+      slip-of p = record { term = p .term; phase = p .phase; source = p .«proposal_data» .len; «flags_bitmap» = p .«flags_bitmap» }
+
+      new : Merged → Bool
+      new m = is (m .result)
+        where
+          is : MergeResult → Bool
+          is Redundant = false
+          is NewInfo = true
+
+      told : (a b : Bool) → r .news ≡ a → s .news ≡ b → either {A = Merged} a (newInfo (packetOf labels (r .slip))) (redundant l) ≡ either b (newInfo (packetOf labels (s .slip))) (redundant l)
+      told a b e f = ap (λ (t : Bool). either t (newInfo (packetOf labels (r .slip))) (redundant l)) (sym e) ∙ same ∙ ap (λ (t : Bool). either t (newInfo (packetOf labels (s .slip))) (redundant l)) f
+
+      by : (a : Bool) → r .news ≡ a → (b : Bool) → s .news ≡ b → r ≡ s
+      by true e true f = rw (ap (λ (m : Merged). slip-of (m .payload .packet)) (told true true e f), e, f)
+      by true e false f = absurd (true≢false (ap new (told true false e f)))
+      by false e true f = absurd (true≢false (sym (ap new (told false true e f))))
+      by false e false f = rw (h .kept e, k .kept f, e, f)

@@ -14,7 +14,7 @@ ghost use Prim.Native.Nat.{ℕ, max};
 ghost use lib.Dec.{ltb};
 ghost use Rattle.marks.specs.Marks.{has, marks};
 ghost use Rattle.merges.specs.Votes.{noOf};
-ghost use Rattle.merges.specs.Merging.{entry, filledOf, markedOf, onlyOf, joinOf, joinNews, unanimousOf, rankOf, withState, ensureOf, decidedOf, acknowledgedOf, voicedOf, settled, adoptedOf, raisedOf, ownOf, sameTermOf, redundant, newInfo, outdated, heardOf, mergeOf, blank, proposalOf, standingOf, goalOf, canSleepOf, allHold, networkGoalOf, outcomeOf};
+ghost use Rattle.merges.specs.Merging.{entry, filledOf, markedOf, onlyOf, joinOf, joinNews, unanimousOf, rankOf, withState, ensureOf, decidedOf, acknowledgedOf, voicedOf, settled, adoptedOf, raisedOf, ownOf, sameTermOf, redundant, newInfo, outdated, heardOf, mergeOf, blank, proposalOf, standingOf, goalOf, canSleepOf, allHold, outcomeOf};
 ghost use Rattle.merges.specs.Slips.{packetOf, draftOf, whose, HeardBy};
 ghost use Rattle.merges.specs.declared.merging.Held.the-variants.{Packet};
 ghost use Rattle.packets.specs.Packets.{proposalData};
@@ -514,16 +514,6 @@ fn all_stand(payloads: [Payload; 64], n: usize, k: u64) -> bool
         i += 1;
     }
     true
-}
-
-// Everybody has the same decision.
-pub fn network_goal_reached(payloads: [Payload; 64], n: usize) -> bool
-    ensures { λ r. ⌜ r ≡ networkGoalOf n payloads ⌝ }
-{
-    if all_stand(payloads, n, 2) {
-        return true;
-    }
-    all_stand(payloads, n, 3)
 }
 
 // What is not committed everywhere by the deadline is aborted.

@@ -31,8 +31,8 @@ unfoldable pub bitmapLen : Bitmap → ℕ
 bitmapLen b = either (eqb (b .len) 0) 2 (1 + 6 * b .len - countOf (b .marks) (b .len))
 
 -- the length of a packet's text from its term, its phase, the length k of its data's text, and its bitmap; names, braces,
--- commas and colons are 51 bytes. 0 where no packet has such parts: a data's text has 2 bytes at least, and 129 at most, for
--- 32 bytes of three digits
+-- commas and colons are 51 bytes. 0 if the bitmap has too many entries, if there is no data's text (k is 0), or if k is
+-- more than a data's text can have: 129, for 32 bytes of three digits
 unfoldable pub partsLen : ℕ → TwoPcPhase → ℕ → Bitmap → ℕ
 partsLen t f k b =
     either (leb (b .len) bitmapEntries && (ltb 0 k && leb k 129))

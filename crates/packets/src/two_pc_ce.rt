@@ -21,8 +21,8 @@ ghost use Rattle.packets.specs.Packets.{ceText, ceWithin, proposalData};
 ghost use Rattle.packets.specs.Writing.{textLen, partsLen, wroteOf, leftOf};
 ghost use Rattle.packets.specs.Reading.{ceNo, ceReadOf, ceRead};
 
-// The length of a packet's text from its parts, `data` being the length of its data's text; 0 where no packet has such
-// parts. The names, braces, commas and colons are 51 bytes.
+// The length of a packet's text from its parts, `data` being the length of its data's text; 0 where the bitmap has too
+// many entries, or `data` is 0 or more than such a text can have. Names, braces, commas and colons are 51 bytes.
 pub fn ce_parts_len(term: u64, phase: TwoPcPhase, data: usize, flags_bitmap: Bitmap) -> usize
     ensures { λ r. ⌜ r ≡ partsLen term phase «data» «flags_bitmap» ⌝ }
 {

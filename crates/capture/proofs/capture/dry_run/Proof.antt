@@ -1,6 +1,5 @@
 use Prim.Native.Nat.{_^_, _<_}
-use mathlib.Core.Path.{_≡_, sym, _∙_}
-use native.Mathlib.Omega.{arith}
+use mathlib.Core.Path.{_≡_}
 use Rattle.engines.specs.declared.network.RoundConf.{RoundConf}
 use Rattle.capture.specs.declared.capture.CeState.{CeState}
 use Rattle.capture.specs.Boards.{Shown, Goes}

@@ -1,6 +1,6 @@
 use native.Mathlib.Omega.{arith}
 use Prim.Native.Nat.{_+_, _%_, _<_, _^_}
-use mathlib.Core.Path.{_≡_, refl, _∙_}
+use mathlib.Core.Path.{_≡_, refl}
 use Rattle.marks.specs.Marks.{countOf}
 use Rattle.marks.specs.Sets.{lowest-lt}
 use Rattle.engines.proofs.Marking.{without, over-less, over-turn, over-none}

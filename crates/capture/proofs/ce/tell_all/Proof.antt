@@ -5,7 +5,7 @@ use mathlib.Core.List.{List}
 use mathlib.Core.Path.{_≡_, refl, _∙_}
 use Rattle.marks.specs.Marks.{has, countOf}
 use Rattle.marks.specs.Sets.{lowest-lt}
-use Rattle.engines.proofs.Marking.{without, over-less, over-turn, over-none}
+use Rattle.engines.proofs.Marking.{without, over-less}
 use Rattle.capture.specs.Boards.{ShownHeld, Kept, Apart}
 use Rattle.merges.specs.declared.merging.Payload.{Payload}
 use Rattle.capture.proofs.Holding.{held-length}
