@@ -1,20 +1,23 @@
--- A round of pipeline_c's entry is a call of a room, and so are its rounds one after the other. Assumes nothing.
-use mathlib.Core.Bool.{Bool, true, false, not, _||_}
-use mathlib.Core.List.{List, [], _∷_}
+-- A round of pipeline_c's entry is a call of a room, and its rounds one after the other are a list of calls. Assumes
+-- nothing.
+use mathlib.Core.Bool.{Bool, true, false, not, _||_, false≢true}
+use mathlib.Core.List.{List, [], _∷_, List·Memᴰ, List·Memᴰ·head}
 use mathlib.Core.Path.{_≡_, refl, sym, _∙_, ap, subst}
-use Prim.Native.Nat.{ℕ, zero, suc, _+_, _%_, _<_, _^_}
+use Prim.Native.Nat.{ℕ, zero, suc, _+_, _*_, _%_, _<_, _≤_, _^_}
 use native.Mathlib.Nat.{mod-lt, mod-eq-of-lt, mod-add-mod}
 use native.Mathlib.Omega.{arith}
-use lib.Dec.{eqb, ltb}
-use lib.ListN.{length}
-use borrow.Author.Tests.{eqb-true, eqb-false, ltb-true, ltb-false}
+use lib.Dec.{eqb, ltb, leb}
+use lib.ListN.{length, take}
+use borrow.Author.Tests.{eqb-true, eqb-false, ltb-true, ltb-false, leb-true}
 use Rattle.loops.specs.Pick.{either}
 use Rattle.loops.specs.Runs.{go}
 use Rattle.loops.specs.Wrap.{add64}
 use Rattle.merges.proofs.Safety.{either-cases}
-use Rattle.graph.specs.Links.{isSize}
+use Rattle.graph.specs.Links.{isSize, graphRefusal}
 use Rattle.graph.proofs.Answers.{size-none, size-many, size-ok}
-use Rattle.engines.specs.Nodes.{inc}
+use Rattle.engines.specs.Nodes.{inc, total}
+use Rattle.engines.specs.Network.{newNetwork}
+use Rattle.engines.proofs.Sums.{new-counts, first-total}
 use Rattle.engines.specs.declared.network.Network.{Network}
 use Rattle.pipeline.specs.Round.{earlyRefusal, roundRefusal, roundAnswer, roundBuffer}
 use Rattle.pipeline.specs.declared.pipeline.PipelineConf.{PipelineConf}
@@ -23,12 +26,14 @@ use Rattle.pipeline_c.specs.Console.{opened}
 use Rattle.pipeline_c.specs.Play.{Playing, countAfter, noted, playRound, isRefused, playRounds}
 use Rattle.room.specs.Capturing.{newCapture}
 use Rattle.room.specs.Pipelining.{pipeConf, pipelineRefusal, pipelinePart, pipelineRows}
-use Rattle.room.specs.Rooms.{openRefusal, confOf, newRoom, openOf, pipelineOf}
+use Rattle.room.specs.Rooms.{sizeOf, openRefusal, confOf, newRoom, openOf, pipelineOf}
 use Rattle.room.specs.declared.capture_calls.CapturePart.{CapturePart}
 use Rattle.room.specs.declared.room.Asked.{Asked}
+use Rattle.room.specs.declared.room.Room.{Room}
 use Rattle.room.specs.declared.room.RoomKind.the-variants as kinds
-use Rattle.demand.specs.Calls.{Call, handed, after}
+use Rattle.demand.specs.Calls.{Call, handed, after, elapsed, moments}
 use Rattle.demand.specs.Rounds.{roundIn, roundsIn}
+use Rattle.demand.proofs.Demand.{demand3}
 use Rattle.room_c.specs.Rounds.{
   Turn,
   nextCall,
@@ -39,6 +44,7 @@ use Rattle.room_c.specs.Rounds.{
   fixedOf,
   roomOf,
   turnOf,
+  ahead,
   RoundsByCalls,
   PlayedRounds,
 }
@@ -55,6 +61,11 @@ sized n =
     decide (eqb n 0) (λ e. rw (e, size-none n (eqb-true n 0 e)))
     (λ e. decide (ltb 64 n) (λ l. rw (e, l, size-many n (ltb-true 64 n l)))
     (λ l. rw (e, l, size-ok n (let z = eqb-false n 0 e in omega arith) (ltb-false 64 n l))))
+
+size-is : (n : ℕ) → isSize n ≡ true → (0 < n) × (n ≤ 64)
+size-is n s =
+    decide (ltb 0 n) (λ a. decide (leb n 64) (λ b. (ltb-true 0 n a, leb-true n 64 b))
+    (λ b. absurd (false≢true (rw (a, b) at s)))) (λ a. absurd (false≢true (rw a at s)))
 
 twice : {A : Type 0} (b : Bool) (x y : A) → either b x (either b x y) ≡ either b x y
 twice true x y = refl
@@ -166,14 +177,56 @@ module _ (ws : List ℕ) (conf : PipelineConf) (c : CapturePart) where
           (e ∙ one-counted (w .played .count) (v .played .refusal) (accepted k (turnOf conf c v)))
       by e false = none-counted h
 
--- ---- the law
+-- ---- from an opening
+
+accepted-room : (a : Asked) → openOf a .refusal ≡ 0
+    → (openRefusal a ≡ 0) × (openOf a .room ≡ newRoom (confOf a) (a .term))
+unfolding openOf
+accepted-room a z =
+    decide (eqb (openRefusal a) 0) (λ o. (eqb-true (openRefusal a) 0 o, rw o))
+    (λ o. absurd (eqb-false (openRefusal a) 0 o (rw o at z)))
 
 opened-room : (a : Asked) → a .kind ≡ kinds.Pipeline → openOf a .refusal ≡ 0
     → roomOf (pipeConf (confOf a)) (newCapture (a .term)) opened ≡ openOf a .room
-unfolding openOf newRoom
-opened-room a e z =
-    decide (eqb (openRefusal a) 0) (λ o. rw (o, e))
-    (λ o. absurd (eqb-false (openRefusal a) 0 o (rw o at z)))
+unfolding newRoom
+opened-room a e z = rw (accepted-room a z .1, e)
+
+-- an accepted opening has 1 to 64 positions
+accepted-size : (a : Asked) → openRefusal a ≡ 0 → isSize (a .graph .n) ≡ true
+unfolding openRefusal graphRefusal
+accepted-size a z =
+    decide (isSize (a .graph .n)) (λ s. s)
+    (λ s. absurd (let h : _≡_ {A = ℕ} 2 0 = rw s at z in omega arith))
+
+first-moment : (calls : List Call) (r : Room) → List·Memᴰ r (moments calls r)
+unfolding moments
+first-moment [] r = List·Memᴰ·head refl
+first-moment (c ∷ cs) r = List·Memᴰ·head refl
+
+-- nothing is counted in it, and its slot is 1
+not-counted : (n e : ℕ) (w : Network) → isSize n ≡ true → w ≡ ahead → w .slot ≡ e → total (take n (w .nodes)) ≡ n * e
+    → ⊥
+unfolding newNetwork
+not-counted n e w s q z t =
+    let few = size-is n s in
+    let none : total (take n (ahead .nodes)) ≡ n * 0 = first-total (ahead .nodes) (new-counts n (few .1)) in
+    let one : 1 ≡ e = sym (ap (λ (x : Network). x .slot) q) ∙ z in
+    let same = ap (λ (x : Network). total (take n (x .nodes))) q in
+    let counts : n * 1 ≡ n * 0 = ap (λ (x : ℕ). n * x) one ∙ sym t ∙ same ∙ none in
+    let some = few .0 in
+    omega arith
+
+never-ahead : (a : Asked) → a .term < 2 ^ 64 → openOf a .refusal ≡ 0 → (calls : List Call)
+    → after calls (openOf a .room) .network ≡ ahead → ⊥
+unfolding newRoom
+never-ahead a t z calls e =
+    let o = accepted-room a z in
+    let r = openOf a .room in
+    let h = demand3 a t z calls r (first-moment calls r) in
+    let size : isSize (sizeOf r) ≡ true = rw (o .1) (accepted-size a (o .0)) in
+    not-counted (sizeOf r) (elapsed calls r) (after calls r .network) size e (h .slot) (h .counts)
+
+-- ---- the law
 
 by-calls : (ws : List ℕ) (conf : PipelineConf) (c : CapturePart) (k : ℕ) (w : Playing) → RoundsByCalls ws conf c k w
 unfolding playRounds lastTurn
@@ -187,4 +240,4 @@ by-calls ws conf c k w =
     }
 
 pub played-rounds : PlayedRounds
-played-rounds = record { rounds = by-calls; start = opened-room }
+played-rounds = record { rounds = by-calls; start = opened-room; beyond = never-ahead }

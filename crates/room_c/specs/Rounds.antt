@@ -3,9 +3,8 @@
 -- and none behind one that is refused. Assumes nothing: it is proved in proofs/Rounding.antt.
 -- It is so of whatever the entry is handed, since any numbers stand in some `Room`. That room need not be one that an
 -- opening and calls lead to: there the entry is more general. It takes a full length that no diameter gives, settings
--- that no opening accepts, and a state that no call leaves, as one whose counts do not add up to its slot. With what
--- an accepted opening fixes, and from the state `opened`, it is a room's (`start`), and what holds of every list of
--- calls from an opening holds of it.
+-- that no opening accepts, and states that no call leaves (`beyond`). With what an accepted opening fixes, and from
+-- the state `opened`, it is a room's (`start`), and what holds of every list of calls from an opening holds of it.
 use mathlib.Core.Bool.{Bool, not}
 use mathlib.Core.List.{List, [], _∷_}
 use mathlib.Core.Path.{_≡_}
@@ -15,6 +14,8 @@ use lib.ListN.{length}
 use Rattle.loops.specs.Pick.{either}
 use Rattle.loops.specs.Runs.{runs}
 use Rattle.loops.specs.Wrap.{add64}
+use Rattle.engines.specs.Network.{newNetwork}
+use Rattle.engines.specs.declared.network.Network.{Network}
 use Rattle.pipeline.specs.declared.pipeline.PipelineConf.{PipelineConf}
 use Rattle.pipeline_c.specs.Console.{opened}
 use Rattle.pipeline_c.specs.Play.{Playing, playRounds}
@@ -95,9 +96,19 @@ pub record RoundsByCalls (ws : List ℕ) (conf : PipelineConf) (c : CapturePart)
       → playRounds ws conf k w .played .count
       ≡ add64 (w .played .count) (roundsIn (roundCalls ws k (turnOf conf c w)) (roomOf conf c (w .played)))
 
--- for any words, conf, state and number of rounds; and which room the entry's first state stands for
+-- a state whose counts do not add up to its slot
+abbrev pub ahead : Network
+ahead =
+    let w = newNetwork in
+    record { nodes = w .nodes; metrics = w .metrics; slot = 1; «next_row» = 0; «bytes_sent» = 0 }
+
 pub record PlayedRounds : Type 0 where
+  -- for any words, conf, state and number of rounds
   pub rounds : (ws : List ℕ) (conf : PipelineConf) (c : CapturePart) (k : ℕ) (w : Playing)
       → RoundsByCalls ws conf c k w
+  -- the entry's first state is that of a room as opened
   pub start : (a : Asked) → a .kind ≡ kinds.Pipeline → openOf a .refusal ≡ 0
       → roomOf (pipeConf (confOf a)) (newCapture (a .term)) opened ≡ openOf a .room
+  -- and there are states that no accepted opening and no calls lead to
+  pub beyond : (a : Asked) → a .term < 2 ^ 64 → openOf a .refusal ≡ 0 → (calls : List Call)
+      → after calls (openOf a .room) .network ≡ ahead → ⊥
