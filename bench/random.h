@@ -15,6 +15,6 @@ static uint64_t next_word(void)
     return z ^ (z >> 31);
 }
 
-static uint64_t below(uint64_t n) { return (uint64_t)(((unsigned __int128)next_word() * n) >> 64); }
+static inline uint64_t below(uint64_t n) { return (uint64_t)(((unsigned __int128)next_word() * n) >> 64); }
 
 #endif

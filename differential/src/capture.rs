@@ -955,37 +955,36 @@ mod compared {
         }
     }
 
+    /// Whole rounds of 64 positions, each with several lists of words.
     fn times() {
         let n = 64;
-        let mut r = Prng::of(1, "capture times");
-        for (what, g) in [("mesh", NetworkGraph::full_mesh(n)), ("line", NetworkGraph::line(n))] {
-            let links = rows_of_graph(&g);
-            let mut room = Capture::open(g, 0, 0.0, 0, 0.3, 10, 100_000, (1 << 32) - 1);
+        let mut drawn: Vec<Prng> = (1..=5).map(|seed| Prng::of(seed, "capture times")).collect();
+        for (what, g) in [
+            ("mesh", NetworkGraph::full_mesh as fn(usize) -> NetworkGraph),
+            ("line", NetworkGraph::line),
+        ] {
+            let links = rows_of_graph(&g(n));
+            let mut room = Capture::open(g(n), 0, 0.0, 0, 0.3, 10, 100_000, (1 << 32) - 1);
             room.propose(0);
-            let words: Vec<u64> = (0..400_000).map(|_| r.next()).collect();
-            let call = call_of(
-                &room,
-                &links,
-                words.clone(),
-                state_numbers(&room, 0, 0, false),
-                vec![WAS; 5],
-            );
-            let rng = ChaCha8Rng::of_words(&words, 0);
-            let ran = rust_run(&room, &rng, room.round_slots).unwrap();
-            let (refusal, state, _) = call.made();
-            assert_eq!((refusal, state[0], state[4]), (0, ran.end, ran.cursor));
-            println!(
-                "{what} of 64, loss 0.3, timeout 10: {} slots to the goal {}, {} words",
-                ran.end, ran.goal, ran.cursor
-            );
-            let mut theirs = || {
-                let mut g = rng.clone();
-                std::hint::black_box(room.run(room.round_slots, &mut g));
-            };
-            let mut ours = || {
-                std::hint::black_box(call.made());
-            };
-            time::beside(&format!("round of a {what} of 64 to its goal"), &mut ours, &mut theirs);
+            for (seed, r) in (1..).zip(&mut drawn) {
+                let words: Vec<u64> = (0..400_000).map(|_| r.next()).collect();
+                let rng = ChaCha8Rng::of_words(&words, 0);
+                let call = call_of(&room, &links, words, state_numbers(&room, 0, 0, false), vec![WAS; 5]);
+                let ran = rust_run(&room, &rng, room.round_slots).unwrap();
+                let (refusal, state, _) = call.made();
+                assert_eq!((refusal, state[0], state[4]), (0, ran.end, ran.cursor));
+                assert!(ran.goal);
+                let mut theirs = || {
+                    let mut g = rng.clone();
+                    std::hint::black_box(room.run(room.round_slots, &mut g));
+                };
+                let mut ours = || {
+                    std::hint::black_box(call.made());
+                };
+                let (slots, drew) = (ran.end, ran.cursor);
+                let row = format!("round of a {what} of 64 to its goal, seed {seed} ({slots} slots, {drew} words)");
+                time::beside(&row, &mut ours, &mut theirs);
+            }
         }
     }
 

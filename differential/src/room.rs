@@ -9,6 +9,7 @@ use crate::pipeline::numbers::{view, COUNT, CURSOR, METRICS, NODES, PAYLOAD, PAY
 use crate::pipeline::View;
 use crate::prng::Prng;
 use crate::tally::Tally;
+use crate::time;
 use crate::Options;
 use ctsim::network::NetworkGraph;
 use rand_chacha::ChaCha8Rng;
@@ -733,8 +734,64 @@ fn list(t: &mut Tally, m: &mut Met, r: &mut Prng, s: &Setup) {
     }
 }
 
+/// A proposal and its round to the goal, in a mesh of 64. Ours opens the room and writes its whole account besides, the
+/// Rust does neither.
+fn times() {
+    let n = 64;
+    for seed in 1..=5 {
+        let mut r = Prng::of(seed, "room times");
+        let s = Setup {
+            kind: 2,
+            links: rows_of_graph(&NetworkGraph::full_mesh(n)),
+            t: 0,
+            term: 0,
+            interval: FOREVER,
+            bound: FOREVER,
+            loss: 0.3,
+            p: 0.0,
+            seed: 0,
+            timeout: 10,
+            repeats: 1,
+            slots: 100_000,
+            given: true,
+            words: (0..400_000).map(|_| r.next()).collect(),
+            buffer: 5,
+        };
+        let calls = [1, 2].map(|which| Call {
+            which,
+            position: 0,
+            cursor: 0,
+            used: 0,
+        });
+        let mut room = s.open_capture();
+        let rng = ChaCha8Rng::of_words(&s.words, 0);
+        let mut theirs = || {
+            let mut g = rng.clone();
+            room.propose(0);
+            let ran = room.run(room.round_slots, &mut g);
+            (ran.0, ran.1, g.cursor())
+        };
+        let mut ours = || s.ask(&calls, &[], ACCOUNT);
+        let ((answer, _, out), (end, met, cursor)) = (ours(), theirs());
+        assert_eq!((answer, out[0], out[CURSOR], met), (0, end, cursor, true));
+        time::beside(
+            &format!("proposal and round of a room of 64, mesh, seed {seed} ({end} slots, {cursor} words)"),
+            &mut || {
+                std::hint::black_box(ours());
+            },
+            &mut || {
+                std::hint::black_box(theirs());
+            },
+        );
+    }
+}
+
 pub fn run(o: &Options) -> Tally {
     let mut t = Tally::new("room");
+    if o.times_only {
+        times();
+        return t;
+    }
     let mut m = Met::new();
     let mut r = Prng::of(o.seed, "room");
     for _ in 0..24_000 * o.scale {
@@ -749,5 +806,6 @@ pub fn run(o: &Options) -> Tally {
     for (what, times) in &m {
         println!("room: {what}: {times}");
     }
+    times();
     t
 }

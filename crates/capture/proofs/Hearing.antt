@@ -9,7 +9,7 @@ use Rattle.loops.specs.Pick.{either}
 use Rattle.engines.specs.Settings.{isLossy}
 use Rattle.engines.specs.Marked.{overMarks}
 use Rattle.engines.specs.Words.{Order, shuffled}
-use Rattle.capture.specs.Plan.{examine1, Senders, noteAt, sendersOf, firstKept, heardFrom, captureOf, coinsOf, targetsOf, Captured, captureAt, noneYet, capturesOf, planAfter, planOf}
+use Rattle.capture.specs.Plan.{examine1, Senders, noteAt, sendersOf, firstKept, heardFrom, captureOf, coinsOf, targetsIn, Captured, captureAt, noneYet, capturesOf, planAfter, planOf}
 use Rattle.engines.specs.declared.words.Draw.{Draw}
 use Rattle.marks.specs.Marks.{countOf}
 use Rattle.engines.specs.declared.node.Node.{Node}
@@ -17,7 +17,7 @@ use Rattle.engines.specs.declared.node.StateSets.{StateSets}
 use Rattle.capture.specs.declared.plan.Coins.{Coins}
 use Rattle.capture.specs.declared.plan.Heard.{Heard}
 use Rattle.capture.specs.declared.plan.Reception.{Reception}
-use Rattle.capture.specs.declared.plan.Plan.{Plan}
+use Rattle.capture.specs.Plan.{Plan}
 
 both : (b : Bool) (g h : Heard) (k : ℕ) → g .examined ≡ k → h .examined ≡ k → either b g h .examined ≡ k
 both true g h k p q = p
@@ -39,7 +39,7 @@ capture-is ws loss links flooding t d g s f = rw (← g, ← s) f
 -- the coins, then the targets, then what each hears
 pub plan-is : (ws : List ℕ) (loss : Float) (links : List ℕ) (slot timeout : ℕ) (nodes : List Node) (s : StateSets) (d : Draw) {c : Coins} {ts k : ℕ} {hears : List ℕ} {q : Reception}
     → c ≡ coinsOf ws slot timeout nodes (s .listening) d
-    → ts ≡ targetsOf (s .listening) (c .recovering)
+    → ts ≡ targetsIn s (c .recovering)
     → _≡_ {A = Captured} (record { hears = hears; tally = q }) (overMarks ts (captureAt ws loss links (s .flooding)) (noneYet (c .draw)))
     → k ≡ countOf (c .recovering) 64
     → _≡_ {A = Plan} (record { recovering = c .recovering; hears = hears; draw = q .draw; «ce_timeouts» = k; «rx_attempts» = q .«rx_attempts»; «rx_success» = q .«rx_success» }) (planOf ws loss links slot timeout nodes s d)

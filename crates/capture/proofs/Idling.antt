@@ -39,10 +39,10 @@ use Rattle.engines.specs.declared.node.Node.{Node}
 use Rattle.engines.specs.declared.node.StateSets.{StateSets}
 use Rattle.engines.specs.declared.node.NodeState.{NodeState}
 use Rattle.engines.specs.declared.node.NodeState.the-variants.{Listen, Flood, Sleep}
-use Rattle.capture.specs.declared.plan.Plan.{Plan}
-use Rattle.capture.specs.declared.turns.News.{News}
+use Rattle.capture.specs.Plan.{Plan}
+use Rattle.capture.specs.Turns.{News}
 use Rattle.engines.specs.declared.metrics.MetricsCollector.{MetricsCollector}
-use Rattle.capture.specs.declared.ce.SlotMerges.{SlotMerges}
+use Rattle.capture.specs.Ce.{SlotMerges}
 use Rattle.engines.specs.declared.network.Network.{Network}
 use Rattle.engines.specs.declared.network.RoundConf.{RoundConf}
 use Rattle.engines.specs.Network.{ticking}
@@ -260,7 +260,3 @@ module _ (ws : List ℕ) (conf : RoundConf) where
   -- a step by a stretch
   pub stepped-idle : {left k : ℕ} {c t : CeState} → 0 < k → k ≤ left → Idle conf k c → t ≡ idled conf k c → Stepped networkIn over (slotOf ws conf) conf left c (left - k) t
   stepped-idle = stepped-leap networkIn over (slotOf ws conf) conf (Idle conf) (idled conf) idle-leaps (λ k c q. omega (arith, q .rows))
-
--- who waits for longer waits for less
-pub waits-less : {slot timeout a b : ℕ} {v : Node} → b ≤ a → Waits slot timeout a v → Waits slot timeout b v
-waits-less h w = record { early = λ l. let p = w .early l in omega arith }

@@ -1,8 +1,16 @@
+pub mod Viewing
+pub mod Turning
+pub mod Holding
+pub mod Telling
+pub mod Acting
+pub mod Running
 pub mod Hearing
 pub mod Shortage
 pub mod Neighbours
-pub mod Telling
 pub mod Settling
 pub mod Idling
 pub mod PlanCursor
 pub mod Targets
+pub mod Unpacking
+pub mod Resting
+pub mod Keeping

@@ -1,12 +1,12 @@
 -- Document 01, "Capture round": a target hears a flooding position that has it as neighbour, or nobody; and only a listening
 -- position that is due recovers. Assumes nothing.
 use Prim.Native.Nat.{ℕ, zero, suc, _+_, _-_, _≤_, _<_}
-use mathlib.Core.Bool.{Bool, true, false, _||_}
-use mathlib.Core.List.{List}
+use mathlib.Core.Bool.{Bool, true, false, true≢false, _||_}
+use mathlib.Core.List.{List, [], _∷_}
 use mathlib.Core.Logic.{_⊎_, inl, inr, ⊎-elim}
 use mathlib.Core.Path.{_≡_, refl, sym, ap, _∙_, subst}
 use lib.Dec.{eqb, ltb}
-use lib.ListN.{length, getD, set, replicate, length-set, length-replicate}
+use lib.ListN.{length, getD, set, replicate, length-set, length-replicate, getD-replicate}
 use lib.Seq.{getD-set-same, getD-set-other}
 use lib.Ieee.{Float}
 use native.Mathlib.Omega.{arith}
@@ -22,7 +22,7 @@ use Rattle.engines.specs.Clamp.{atMost64}
 use Rattle.engines.specs.Marked.{overMarks, withMark}
 use Rattle.engines.specs.Settings.{isLossy}
 use Rattle.engines.specs.Words.{nextOf, coinOf, pickOf, Order, swapped, swapStep, shuffled}
-use Rattle.capture.specs.Plan.{timedOut, tossed1, tossAt, coinsOf, Recovers, Senders, noteAt, sendersOf, examine1, isFound, unheard, firstKept, heardFrom, captureOf, whom, Captured, captureAt, targetsOf, noneYet, capturesOf, planAfter, planOf, Sender, Hears}
+use Rattle.capture.specs.Plan.{Plan, timedOut, tossed1, tossAt, coinsOf, Recovers, Senders, noteAt, sendersOf, examine1, isFound, unheard, firstKept, heardFrom, captureOf, whom, Captured, captureAt, targetsIn, noneYet, capturesOf, planAfter, planOf, Sender, Hears}
 use Rattle.engines.proofs.Drawing.{pick-le}
 use Rattle.capture.proofs.Hearing.{examined-more}
 use Rattle.engines.specs.declared.words.Draw.{Draw}
@@ -185,7 +185,7 @@ pub plan-hears : (ws : List ℕ) (loss : Float) (links : List ℕ) (slot timeout
 unfolding planOf planAfter
 plan-hears ws loss links slot timeout nodes s d t =
     let c = coinsOf ws slot timeout nodes (s .listening) d in
-    captures-fair ws loss links (s .flooding) (targetsOf (s .listening) (c .recovering)) (c .draw) .each t
+    captures-fair ws loss links (s .flooding) (targetsIn s (c .recovering)) (c .draw) .each t
 
 -- ---- who recovers
 
@@ -225,3 +225,45 @@ module _ (slot timeout : ℕ) (nodes : List Node) (listening : ℕ) where
 pub plan-recovers : (ws : List ℕ) (loss : Float) (links : List ℕ) (slot timeout : ℕ) (nodes : List Node) (s : StateSets) (d : Draw) (i : ℕ) → has (planOf ws loss links slot timeout nodes s d .recovering) i ≡ true → Recovers slot timeout nodes (s .listening) i
 unfolding planOf planAfter
 plan-recovers ws loss links slot timeout nodes s d i e = coins-due slot timeout nodes (s .listening) ws d i e
+
+-- ---- who hears nobody
+
+-- a capture tells of its target alone
+other-heard : (ws : List ℕ) (loss : Float) (links : List ℕ) (flooding i : ℕ) (p : Captured) (t : ℕ) → (t ≡ i → ⊥) → getD (captureAt ws loss links flooding i p .hears) t 0 ≡ getD (p .hears) t 0
+unfolding captureAt
+other-heard ws loss links flooding i p t n = getD-set-other (p .hears) i t (whom (captureOf ws loss links flooding i (p .tally .draw))) 0 n
+
+pub any-default : (l : List ℕ) (i d e : ℕ) → i < length l → getD l i d ≡ getD l i e
+any-default [] i d e h = absurd (omega arith)
+any-default (x ∷ l) zero d e h = refl
+any-default (x ∷ l) (suc i) d e h = any-default l i d e (omega arith)
+
+module _ (ws : List ℕ) (loss : Float) (links : List ℕ) (slot timeout : ℕ) (nodes : List Node) (s : StateSets) (d : Draw) where
+  abbrev plan : Plan
+  plan = planOf ws loss links slot timeout nodes s d
+
+  pub plan-long : length (plan .hears) ≡ 64
+  unfolding planOf planAfter
+  plan-long =
+      let c = coinsOf ws slot timeout nodes (s .listening) d in
+      captures-fair ws loss links (s .flooding) (targetsIn s (c .recovering)) (c .draw) .long
+
+  pub plan-heard : (t : ℕ) → t < 64 → Hears links (s .flooding) t (getD (plan .hears) t 0)
+  plan-heard t h = subst (Hears links (s .flooding) t) (any-default (plan .hears) t 64 0 (omega (arith, plan-long))) (plan-hears ws loss links slot timeout nodes s d t)
+
+  -- a position that is no target hears nobody
+  pub plan-others : (t : ℕ) → t < 64 → has (targetsIn s (plan .recovering)) t ≡ false → getD (plan .hears) t 0 ≡ 64
+  unfolding planOf planAfter capturesOf overMarks
+  plan-others t h e =
+      upto-holds (λ (p : Captured). getD (p .hears) t 0 ≡ 64) (λ i p. either (has targets i) (captureAt ws loss links (s .flooding) i p) p) 64
+      (λ i p l q. by i p (has targets i) refl q) (noneYet (coins .draw)) (getD-replicate 64 t 64 0 h)
+    where
+      coins : Coins
+      coins = coinsOf ws slot timeout nodes (s .listening) d
+
+      targets : ℕ
+      targets = targetsIn s (coins .recovering)
+
+      by : (i : ℕ) (p : Captured) (b : Bool) → has targets i ≡ b → getD (p .hears) t 0 ≡ 64 → getD (either b (captureAt ws loss links (s .flooding) i p) p .hears) t 0 ≡ 64
+      by i p true f q = other-heard ws loss links (s .flooding) i p t (λ z. true≢false (sym f ∙ ap (λ (k : ℕ). has targets k) (sym z) ∙ e)) ∙ q
+      by i p false f q = q

@@ -7,7 +7,7 @@ use lib.ListN.{getD}
 use Rattle.engines.specs.Settings.{isLossy}
 use Rattle.engines.specs.Words.{shuffled}
 use Rattle.engines.specs.Nodes.{noNode}
-use Rattle.capture.specs.Plan.{timedOut, tossed1, tossAt, coinsOf, sendersOf, examine1, isFound, unheard, firstKept, heardFrom, captureOf, tallied, Captured, captureAt, targetsOf, noneYet, capturesOf, planAfter, planOf}
+use Rattle.capture.specs.Plan.{timedOut, tossed1, tossAt, coinsOf, sendersOf, examine1, isFound, unheard, firstKept, heardFrom, captureOf, tallied, Captured, captureAt, targetsIn, noneYet, capturesOf, planAfter, planOf}
 use Rattle.engines.specs.declared.words.Draw.{Draw}
 use Rattle.engines.specs.declared.node.Node.{Node}
 use Rattle.engines.specs.declared.node.StateSets.{StateSets}
@@ -45,4 +45,4 @@ module _ (ws : List ℕ) where
   plan-later loss links slot timeout nodes s d =
       let c = coinsOf ws slot timeout nodes (s .listening) d in
       later-trans ws (coins-later slot timeout nodes (s .listening) d)
-      (marks-later ws (λ (p : Captured). p .tally .draw) (captureAt ws loss links (s .flooding)) (captured-later loss links (s .flooding)) (targetsOf (s .listening) (c .recovering)) (noneYet (c .draw)))
+      (marks-later ws (λ (p : Captured). p .tally .draw) (captureAt ws loss links (s .flooding)) (captured-later loss links (s .flooding)) (targetsIn s (c .recovering)) (noneYet (c .draw)))

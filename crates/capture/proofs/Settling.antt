@@ -31,18 +31,21 @@ module _ (ws rows : List ℕ) (used : ℕ) (conf : RoundConf) (c : CeState) (ini
   unfolding refusalOf startOf
   refused-early {early} e z = refused early (rw (← e, ne-eqb early 0 z)) z
 
-  module _ {early : ℕ} (e : early ≡ longRefusal conf (c .network .slot)) (z : early ≡ 0) (s t : CeState) (es : s ≡ startOf conf initiator cursor c) (due : ℕ)
-      (w : Surveyed networkIn over (slotOf ws conf) conf drawIn (conf .length) s t due) {short : Bool} (b : short ≡ t .draw .short) {late : ℕ}
+  -- the round's first state
+  abbrev first : CeState
+  first = startOf conf initiator cursor c
+
+  module _ {early : ℕ} (e : early ≡ longRefusal conf (c .network .slot)) (z : early ≡ 0) (t : CeState) (due : ℕ)
+      (w : Surveyed networkIn over (slotOf ws conf) conf drawIn (conf .length) first t due) {short : Bool} (b : short ≡ t .draw .short) {late : ℕ}
       (l : late ≡ lateOf (length rows) used short due) where
     ran : late ≡ lateOf (length rows) used (t .draw .short) due
     ran = l ∙ ap (λ (x : Bool). lateOf (length rows) used x due) b
 
-    told : refusalOf ws (length rows) used conf (startOf conf initiator cursor c) ≡ late
+    told : refusalOf ws (length rows) used conf first ≡ late
     unfolding refusalOf afterRound startOf
     told =
         rw (← e, eq-eqb early 0 z)
-        (ap (λ (x : CeState). lateOf (length rows) used (afterRound ws conf x .draw .short) (dueIn networkIn over (slotOf ws conf) conf (conf .length) x)) (sym es)
-        ∙ sym (late-is networkIn over (slotOf ws conf) conf drawIn (conf .length) s t due (length rows) used w) ∙ sym ran)
+        (sym (late-is networkIn over (slotOf ws conf) conf drawIn (conf .length) first t due (length rows) used w) ∙ sym ran)
 
     pub refused-late : (late ≡ 0 → ⊥) → Owed (record { refusal = late; state = c; used = used }) rows
     refused-late n = refused late told n
@@ -55,16 +58,16 @@ module _ (ws rows : List ℕ) (used : ℕ) (conf : RoundConf) (c : CeState) (ini
       pub fits : (used + due) * 5 ≤ length rows
       fits = fine .1
 
-      pub many : length (rowsOf ws conf (conf .length) s) ≡ due * 5
+      pub many : length (rowsOf ws conf (conf .length) first) ≡ due * 5
       many = sym (w .rows (fine .0))
 
-      pub accepted : {final : List ℕ} → final ≡ sets rows (used * 5) (rowsOf ws conf (conf .length) s) → Owed (record { refusal = 0; state = t; used = used + due }) final
+      pub accepted : {final : List ℕ} → final ≡ sets rows (used * 5) (rowsOf ws conf (conf .length) first) → Owed (record { refusal = 0; state = t; used = used + due }) final
       unfolding answerOf bufferOf afterRound
       accepted q =
-          let d : dueIn networkIn over (slotOf ws conf) conf (conf .length) s ≡ due = omega (arith, many) in (
-            rw (told, none, ← es, d, ← w .state (fine .0)),
-            rw (told, none, ← es) q,
+          let d : dueIn networkIn over (slotOf ws conf) conf (conf .length) first ≡ due = omega (arith, many) in (
+            rw (told, none, d, ← w .state (fine .0)),
+            rw (told, none) q,
           )
 
       pub quiet : due ≡ 0 → Owed (record { refusal = 0; state = t; used = used + due }) rows
-      quiet q = accepted (no-rows rows (rowsOf ws conf (conf .length) s) (used * 5) (omega (arith, many)))
+      quiet q = accepted (no-rows rows (rowsOf ws conf (conf .length) first) (used * 5) (omega (arith, many)))

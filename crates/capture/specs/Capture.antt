@@ -19,9 +19,9 @@ use Rattle.engines.specs.declared.network.RoundConf.{RoundConf}
 use Rattle.capture.specs.Plan.{planOf}
 use Rattle.capture.specs.Turns.{startedAll, turnedAll, countedSlot}
 use Rattle.capture.specs.Ce.{sentOf, toldAll}
-use Rattle.capture.specs.declared.plan.Plan.{Plan}
-use Rattle.capture.specs.declared.turns.News.{News}
-use Rattle.capture.specs.declared.ce.SlotMerges.{SlotMerges}
+use Rattle.capture.specs.Plan.{Plan}
+use Rattle.capture.specs.Turns.{News}
+use Rattle.capture.specs.Ce.{SlotMerges}
 use Rattle.capture.specs.declared.capture.CeState.{CeState}
 use Rattle.capture.specs.declared.capture.CeAnswer.{CeAnswer}
 

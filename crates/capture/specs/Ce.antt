@@ -21,7 +21,6 @@ use Rattle.merges.specs.declared.merging.MergeResult.{MergeResult}
 use Rattle.merges.specs.declared.merging.MergeResult.the-variants.{Redundant, NewInfo}
 use Rattle.engines.specs.Clamp.{atMost64}
 use Rattle.engines.specs.Marked.{withMark, overMarks}
-use Rattle.capture.specs.declared.ce.SlotMerges.{SlotMerges}
 
 -- The length of a payload: that of its text, and nothing where there is no packet.
 abbrev pub lenBy : CeTwoPcPacket → Held → ℕ
@@ -43,12 +42,23 @@ abbrev pub isNews : MergeResult → Bool
 isNews Redundant = false
 isNews NewInfo = true
 
--- Position i merges what the position that it hears held at the slot's start; who hears nobody (64) keeps what it holds.
-unfoldable pub hearingOf : Voting → List ℕ → List Payload → ℕ → Merged
-hearingOf s hears held i =
-    either (ltb (getD hears i 0) 64)
-    (mergeOf (noOf s) (s .n) i (getD held i noPayload) (getD held (getD hears i 0) noPayload))
+-- what position i makes of what position src holds; who hears nobody (64) keeps what it holds
+abbrev pub mergedFrom : Voting → List Payload → ℕ → ℕ → Merged
+mergedFrom s held i src =
+    either (ltb src 64)
+    (mergeOf (noOf s) (s .n) i (getD held i noPayload) (getD held src noPayload))
     (redundant (getD held i noPayload))
+
+-- Position i merges what the position that it hears held at the slot's start.
+unfoldable pub hearingOf : Voting → List ℕ → List Payload → ℕ → Merged
+hearingOf s hears held i = mergedFrom s held i (getD hears i 0)
+
+-- What positions hold after a slot, and a mark for each whose merge was new to it, who then has reached its goal, and who can sleep by what it holds.
+pub record SlotMerges : Type 0 where
+  pub held : List Payload
+  pub «new_info» : ℕ
+  pub «goal_reached» : ℕ
+  pub «can_sleep» : ℕ
 
 abbrev pub notedIf : Bool → ℕ → ℕ → ℕ
 notedIf t i m = either t (withMark m i) m

@@ -4,3 +4,5 @@ pub mod Ce
 pub mod Capture
 pub mod PlanCases
 pub mod Idle
+pub mod Boards
+pub mod Senders

@@ -23,7 +23,6 @@ use Rattle.engines.specs.declared.node.StateSets.{StateSets}
 use Rattle.capture.specs.declared.plan.Coins.{Coins}
 use Rattle.capture.specs.declared.plan.Heard.{Heard}
 use Rattle.capture.specs.declared.plan.Reception.{Reception}
-use Rattle.capture.specs.declared.plan.Plan.{Plan}
 
 -- ---- coins
 
@@ -113,6 +112,10 @@ captureAt ws loss links flooding t p = heardAt t p (captureOf ws loss links floo
 unfoldable pub targetsOf : ℕ → ℕ → ℕ
 targetsOf listening recovering = marks 64 (λ t. has listening t && not (has recovering t))
 
+-- .. of a slot with these states
+abbrev pub targetsIn : StateSets → ℕ → ℕ
+targetsIn s recovering = targetsOf (s .listening) recovering
+
 abbrev pub noneYet : Draw → Captured
 noneYet d = record { hears = replicate 64 64; tally = record { draw = d; «rx_attempts» = 0; «rx_success» = 0 } }
 
@@ -121,6 +124,15 @@ unfoldable pub capturesOf : List ℕ → Float → List ℕ → ℕ → ℕ → 
 capturesOf ws loss links targets flooding d = overMarks targets (captureAt ws loss links flooding) (noneYet d)
 
 -- ---- the plan
+
+-- A mark for each position that recovers; whom each position hears, 64 where nobody; the cursor, and the slot's counts.
+pub record Plan : Type 0 where
+  pub recovering : ℕ
+  pub hears : List ℕ
+  pub draw : Draw
+  pub «ce_timeouts» : ℕ
+  pub «rx_attempts» : ℕ
+  pub «rx_success» : ℕ
 
 abbrev pub planned : Coins → Captured → Plan
 planned c p =
@@ -134,7 +146,7 @@ planned c p =
     }
 
 unfoldable pub planAfter : List ℕ → Float → List ℕ → StateSets → Coins → Plan
-planAfter ws loss links s c = planned c (capturesOf ws loss links (targetsOf (s .listening) (c .recovering)) (s .flooding) (c .draw))
+planAfter ws loss links s c = planned c (capturesOf ws loss links (targetsIn s (c .recovering)) (s .flooding) (c .draw))
 
 -- The plan of a slot: coins, then captures. Every recovery counts as one timeout.
 unfoldable pub planOf : List ℕ → Float → List ℕ → ℕ → ℕ → List Node → StateSets → Draw → Plan

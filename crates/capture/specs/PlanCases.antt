@@ -17,7 +17,7 @@ use Rattle.capture.specs.Turns.{nextState}
 use Rattle.capture.specs.Plan.{timedOut, tossed1, coinsOf, noteAt, sendersOf, examine1, firstKept, heardFrom, captureOf, whom, tallied, captureAt, targetsOf, capturesOf, planAfter, planOf}
 use Rattle.engines.specs.declared.node.Node.{Node}
 use Rattle.engines.specs.declared.node.NodeState.the-variants.{Listen, Flood, Sleep}
-use Rattle.capture.specs.declared.plan.Plan.{Plan}
+use Rattle.capture.specs.Plan.{Plan}
 
 -- ---- the plan of a slot
 

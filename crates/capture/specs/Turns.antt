@@ -12,8 +12,7 @@ use Rattle.engines.specs.Nodes.{noNode, isFlood, isSleep}
 use Rattle.engines.specs.declared.node.Node.{Node}
 use Rattle.engines.specs.declared.node.NodeState.{NodeState}
 use Rattle.engines.specs.declared.node.NodeState.the-variants.{Listen, Flood, Sleep}
-use Rattle.capture.specs.declared.turns.News.{News}
-use Rattle.capture.specs.declared.plan.Plan.{Plan}
+use Rattle.capture.specs.Plan.{Plan}
 use Rattle.engines.specs.declared.metrics.MetricsCollector.{MetricsCollector}
 
 -- A round starts with the initiator flooding and all others listening; the last progress of each is the round's start.
@@ -54,6 +53,14 @@ turned slot progressed newInfo goal canSleep v =
       «slots_flood» = v .«slots_flood»;
       «slots_sleep» = v .«slots_sleep»;
     }
+
+-- What a slot brought, a mark for each position: its coin said yes; its merge was new to it; it then had reached its goal; what it holds at the slot's end
+-- lets it sleep.
+pub record News : Type 0 where
+  pub recovering : ℕ
+  pub «new_info» : ℕ
+  pub «goal_reached» : ℕ
+  pub «can_sleep» : ℕ
 
 -- Recovery and new information are progress.
 unfoldable pub turnOf : ℕ → News → ℕ → Node → Node

@@ -3,20 +3,27 @@ ghost use mathlib.Core.Bool.{false};
 ghost use mathlib.Core.Path.{_≡_};
 ghost use Prim.Native.Nat.{_<_};
 ghost use lib.ListN.{length};
-ghost use Rattle.engines.specs.Rounds.{placed, Stepped, Surveyed};
-ghost use Rattle.capture.specs.Capture.{votingOf, begun, goalMet, acted, finished, slotOf, over, networkIn, drawIn, rowsOf, startOf, answerOf, bufferOf};
+ghost use Rattle.engines.specs.Rows.{highestProgress};
+ghost use Rattle.engines.specs.Rounds.{placed, Surveyed};
+ghost use Rattle.engines.specs.declared.network.RoundConf.{RoundConf};
+ghost use Rattle.capture.specs.declared.capture.CeState.{CeState};
+ghost use Rattle.capture.specs.Capture.{votingOf, acted, finished, slotOf, over, networkIn, drawIn, rowsOf, startOf, answerOf, bufferOf};
+ghost use Rattle.capture.specs.Boards.{fixedOf, endedBy, rowBy, Shown, Goes, Advanced, Ran};
+use super::board;
+use super::board::Board;
+use super::board::CeFixed;
 use super::ce;
+use super::ce::Told;
 use super::idle;
 use super::plan;
 use super::turns;
-use super::turns::News;
 use engines::network;
 use engines::network::Network;
 use engines::network::RoundConf;
-use engines::node;
 use engines::rows;
+use engines::rows::Row;
 use engines::words::Draw;
-use merges::merging;
+use graph::sets;
 use merges::merging::Payload;
 use merges::votes::Voting;
 
@@ -39,175 +46,175 @@ pub fn voting_of(conf: RoundConf) -> Voting
     }
 }
 
-// ---- a slot
-
-// Every position is ticked in its state.
-fn begin(conf: RoundConf, c: CeState) -> CeState
-    ensures { λ r. ⌜ r ≡ begun conf c ⌝ }
+// What a slot goes by, beside the links.
+fn fixed_of(conf: RoundConf) -> CeFixed
+    ensures { λ r. ⌜ r ≡ fixedOf conf ⌝ }
 {
-    let w = c.network;
-    let mut d = c;
-    let ticked = network::tick(conf, w);
-    d.network = ticked;
-    d
+    CeFixed {
+        voting: voting_of(conf),
+        loss_rate: conf.settings.loss_rate,
+        listen_timeout: conf.settings.listen_timeout,
+        interval: conf.interval,
+    }
 }
 
+// ---- a slot
+
 // A slot in which all hold the same decision ends the round, and nobody acts in it.
-fn end(conf: RoundConf, c: CeState) -> CeState
-    ensures { λ r. ⌜ r ≡ goalMet conf c ⌝ }
+fn end(interval: u64, b: Board) -> Board
+    ensures { λ r. ⌜ r ≡ endedBy interval b ⌝ }
 {
-    let w = c.network;
-    let mut v = w;
-    v.slot = std::num::wrapping_add_u64(w.slot, 1);
-    v.next_row = rows::next_row(w.next_row, conf.interval, w.slot);
-    let mut d = c;
-    d.network = v;
-    d.ended = true;
-    d
+    let mut e = b;
+    e.slot = std::num::wrapping_add_u64(b.slot, 1);
+    e.next_row = rows::next_row(b.next_row, interval, b.slot);
+    e.ended = true;
+    e
 }
 
 // The plan of the slot, applied to what all held at its start.
-fn act(words: &[u64], conf: RoundConf, c: CeState) -> CeState
-    ensures { λ r. ⌜ r ≡ acted (now (words .entry)) conf c ⌝ }
+fn act(words: &[u64], links: &[u64; 64], f: CeFixed, b: Board, table: &mut [u64; 576]) -> Board
+    ensures { λ r. ⌜ ((conf : RoundConf) (base c : CeState) → Goes conf (now (links .entry)) f → Shown (conf .graph .n) base b (now (table .entry)) c → Shown (conf .graph .n) base r (now (table .exit)) (acted (now (words .entry)) conf c)) ⌝ }
 {
-    let w = c.network;
-    let nodes = w.nodes;
-    let metrics = w.metrics;
-    let held = c.held;
-    let draw = c.draw;
-    let g = conf.graph;
-    let links = g.adj;
-    let s = node::state_sets(nodes, g.n);
-    let p = plan::plan_slot(
-        words,
-        &links,
-        nodes,
-        s,
-        w.slot,
-        conf.settings.listen_timeout,
-        conf.settings.loss_rate,
-        draw,
-    );
-    let hears = p.hears;
-    let voting = voting_of(conf);
-    let t = ce::tell_all(voting, held, hears);
-    let news = News {
-        recovering: p.recovering,
-        new_info: t.new_info,
-        goal_reached: t.goal_reached,
-        can_sleep: t.can_sleep,
+    let s = b.states;
+    let d = b.draw;
+    let phases = b.phases;
+    let voting = f.voting;
+    let mut hears = [64usize; 64];
+    let p = plan::plan_slot(words, links, f, s, b.slot, d, table, &mut hears);
+    let sent = ce::bytes_of(s.flooding, phases, table);
+    let before = Told {
+        phases,
+        can_sleep: b.can_sleep,
+        new_info: 0,
     };
-    let after = t.held;
-    let e = p.draw;
-    CeState {
-        network: Network {
-            nodes: turns::turn_all(nodes, g.n, w.slot, news),
-            metrics: turns::count_slot(metrics, p),
-            slot: std::num::wrapping_add_u64(w.slot, 1),
-            next_row: rows::next_row(w.next_row, conf.interval, w.slot),
-            bytes_sent: std::num::wrapping_add_u64(w.bytes_sent, ce::bytes_of(s.flooding, held)),
-        },
-        held: after,
-        draw: e,
-        ended: false,
-    }
+    let t = ce::tell_all(voting, p.targets, &hears, before, table);
+    turns::turn(b, f.interval, p, sent, t, table)
 }
 
 // What follows the tick and the row of a slot.
-fn finish(words: &[u64], conf: RoundConf, c: CeState) -> CeState
-    ensures { λ r. ⌜ r ≡ finished (now (words .entry)) conf c ⌝ }
+fn finish(words: &[u64], links: &[u64; 64], f: CeFixed, b: Board, table: &mut [u64; 576]) -> Board
+    ensures { λ r. ⌜ ((conf : RoundConf) (base c : CeState) → Goes conf (now (links .entry)) f → Shown (conf .graph .n) base b (now (table .entry)) c → Shown (conf .graph .n) base r (now (table .exit)) (finished (now (words .entry)) conf c)) ⌝ }
 {
-    let held = c.held;
-    if merging::network_goal_reached(held, conf.graph.n) {
-        return end(conf, c);
+    let p = b.phases;
+    if idle::goal_reached(f.voting.n, p) {
+        return end(f.interval, b);
     }
-    act(words, conf, c)
+    act(words, links, f, b, table)
 }
 
-fn slot(words: &[u64], conf: RoundConf, c: CeState) -> CeState
-    ensures { λ r. ⌜ r ≡ slotOf (now (words .entry)) conf c ⌝ }
+fn slot(words: &[u64], links: &[u64; 64], f: CeFixed, b: Board, table: &mut [u64; 576]) -> Board
+    ensures { λ r. ⌜ ((conf : RoundConf) (base c : CeState) → Goes conf (now (links .entry)) f → Shown (conf .graph .n) base b (now (table .entry)) c → Shown (conf .graph .n) base r (now (table .exit)) (slotOf (now (words .entry)) conf c)) ⌝ }
 {
-    let b = begin(conf, c);
-    finish(words, conf, b)
+    let s = b.states;
+    turns::pass(s, 1, table);
+    finish(words, links, f, b, table)
 }
 
 // ---- a run of slots: one that only counts its rows, and one that writes them
 
-struct CeRun {
-    state: CeState,
-    due: u64,
+// A round after a step, and how many slots it has left.
+pub struct CeStep {
+    pub board: Board,
+    pub left: u64,
 }
 
-// A round after a step, how many slots it has left, and whether nothing was sent in the step.
-struct CeStep {
-    state: CeState,
+// A step of a round: one slot or, where nobody acts, a stretch of them.
+fn advance(
+    words: &[u64],
+    links: &[u64; 64],
+    f: CeFixed,
+    b: Board,
     left: u64,
-    quiet: bool,
-}
-
-fn ran_short(c: CeState) -> bool
-    ensures { λ r. ⌜ r ≡ c .draw .short ⌝ }
+    table: &mut [u64; 576],
+) -> CeStep
+    requires { ⌜ (0 < left) × (b .ended ≡ false) ⌝ }
+    ensures { λ r. ⌜ r .left < left ⌝ }
+    ensures { λ r. ⌜ ((conf : RoundConf) (base c : CeState) → Goes conf (now (links .entry)) f → Shown (conf .graph .n) base b (now (table .entry)) c → Advanced (now (words .entry)) conf base left c r (now (table .exit))) ⌝ }
 {
-    let d = c.draw;
-    d.short
-}
-
-// A step of a round: one slot or, where nobody acts, a stretch of them. Looking for one takes time, and there is none while positions flood, so it is looked
-// for only if nothing was sent in the step before.
-fn advance(words: &[u64], conf: RoundConf, c: CeState, left: u64, quiet: bool) -> CeStep
-    requires { ⌜ (0 < left) × (c .ended ≡ false) ⌝ }
-    ensures { λ r. ⌜ Stepped networkIn over (slotOf (now (words .entry)) conf) conf left c (r .left) (r .state) ⌝ }
-{
-    if quiet {
-        let k = idle::idle_slots(conf, c, left);
-        if 0 < k {
-            return CeStep {
-                state: idle::pass_idle(conf, c, k),
-                left: left - k,
-                quiet,
-            };
-        }
+    let k = idle::idle_slots(f, b, table, left);
+    if 0 < k {
+        let s = b.states;
+        turns::pass(s, k, table);
+        let mut e = b;
+        e.slot = std::num::wrapping_add_u64(b.slot, k);
+        return CeStep {
+            board: e,
+            left: left - k,
+        };
     }
-    let d = slot(words, conf, c);
     CeStep {
-        state: d,
+        board: slot(words, links, f, b, table),
         left: left - 1,
-        quiet: d.network.bytes_sent == c.network.bytes_sent,
     }
 }
 
-// The round without its rows, and how many are due. Once words have run short the rest is not run: a round may have four billion slots, and a lack stays noted.
-fn dry_run(words: &[u64], conf: RoundConf, c: CeState) -> CeRun
-    ensures { λ r. ⌜ Surveyed networkIn over (slotOf (now (words .entry)) conf) conf drawIn (conf .length) c (r .state) (r .due) ⌝ }
+// A round that was run, and how many rows are due.
+pub struct CeRun {
+    pub board: Board,
+    pub due: u64,
+}
+
+// The round without its rows, and how many are due. Once words have run short the rest is not run: a round may have
+// four billion slots, and a lack stays noted.
+fn dry_run(
+    words: &[u64],
+    links: &[u64; 64],
+    f: CeFixed,
+    b: Board,
+    length: u64,
+    table: &mut [u64; 576],
+) -> CeRun
+    ensures { λ r. ⌜ ((conf : RoundConf) (base c : CeState) → Goes conf (now (links .entry)) f → conf .length ≡ length → Shown (conf .graph .n) base b (now (table .entry)) c → Ran (now (words .entry)) conf base c r (now (table .exit))) ⌝ }
 {
-    let mut d = c;
-    let mut left = conf.length;
+    let mut d = b;
+    let mut left = length;
     let mut due: u64 = 0;
-    let mut quiet = false;
     while 0 < left {
         if d.ended {
-            return CeRun { state: d, due };
+            return CeRun { board: d, due };
         }
-        if ran_short(d) {
-            return CeRun { state: d, due };
+        if d.draw.short {
+            return CeRun { board: d, due };
         }
-        due = rows::due_after(due, d.network.next_row, d.network.slot);
-        let s = advance(words, conf, d, left, quiet);
-        d = s.state;
+        due = rows::due_after(due, d.next_row, d.slot);
+        let s = advance(words, links, f, d, left, table);
+        d = s.board;
         left = s.left;
-        quiet = s.quiet;
     }
-    CeRun { state: d, due }
+    CeRun { board: d, due }
 }
 
-// The round again, for its rows alone, as many as the part that is lent holds. Slots behind the last row are not run again.
-fn record_run(words: &[u64], part: &mut [u64], conf: RoundConf, c: CeState)
-    ensures { λ _. ⌜ now (part .exit) ≡ placed (now (part .entry)) 0 (rowsOf (now (words .entry)) conf (conf .length) c) ⌝ }
+// The row of the slot that begins. No capture round counts progress, so `top` is its highest from start to end.
+fn row_of(b: Board, top: u64) -> Row
+    ensures { λ r. ⌜ r ≡ rowBy b top ⌝ }
 {
-    let mut d = c;
-    let mut left = conf.length;
+    let s = b.states;
+    Row {
+        slot: b.next_row,
+        progress: top,
+        listening: sets::count_marks(s.listening) as u64,
+        flooding: sets::count_marks(s.flooding) as u64,
+        sleeping: sets::count_marks(s.sleeping) as u64,
+    }
+}
+
+// The round again, for its rows alone, as many as the part that is lent holds. Slots behind the last row are not run
+// again.
+fn record_run(
+    words: &[u64],
+    part: &mut [u64],
+    links: &[u64; 64],
+    f: CeFixed,
+    b: Board,
+    length: u64,
+    top: u64,
+    table: &mut [u64; 576],
+)
+    ensures { λ _. ⌜ ((conf : RoundConf) (base c : CeState) → Goes conf (now (links .entry)) f → conf .length ≡ length → Shown (conf .graph .n) base b (now (table .entry)) c → highestProgress (conf .graph .n) (base .network .nodes) ≡ top → now (part .exit) ≡ placed (now (part .entry)) 0 (rowsOf (now (words .entry)) conf length c)) ⌝ }
+{
+    let mut d = b;
+    let mut left = length;
     let mut at: usize = 0;
-    let mut quiet = false;
     while 0 < left {
         if d.ended {
             return;
@@ -215,12 +222,10 @@ fn record_run(words: &[u64], part: &mut [u64], conf: RoundConf, c: CeState)
         if rows::is_full(part.len(), at) {
             return;
         }
-        let w = d.network;
-        at = network::write_row(part, at, conf, w);
-        let s = advance(words, conf, d, left, quiet);
-        d = s.state;
+        at = network::put_due(part, at, d.slot, row_of(d, top));
+        let s = advance(words, links, f, d, left, table);
+        d = s.board;
         left = s.left;
-        quiet = s.quiet;
     }
 }
 
@@ -233,24 +238,56 @@ pub struct CeAnswer {
     pub used: usize,
 }
 
-// The start of a round: the last initiator floods, all others listen, and words are drawn from the cursor on.
-fn start(conf: RoundConf, c: CeState, initiator: usize, cursor: usize) -> CeState
-    ensures { λ r. ⌜ r ≡ startOf conf initiator cursor c ⌝ }
+// A round that was run, as the rules have it, and how many rows are due.
+struct CeSurvey {
+    state: CeState,
+    due: u64,
+}
+
+// The round without its rows: the initiator floods, all others listen, and words are drawn from the cursor on.
+fn survey(words: &[u64], conf: RoundConf, c: CeState, initiator: usize, cursor: usize) -> CeSurvey
+    ensures { λ r. ⌜ Surveyed networkIn over (slotOf (now (words .entry)) conf) conf drawIn (conf .length) (startOf conf initiator cursor c) (r .state) (r .due) ⌝ }
 {
+    let g = conf.graph;
+    let links = g.adj;
+    let f = fixed_of(conf);
+    let mut table = [0u64; 576];
+    let b = board::unpack(g.n, c, initiator, cursor, &mut table);
+    let d = dry_run(words, &links, f, b, conf.length, &mut table);
+    let e = d.board;
+    CeSurvey {
+        state: board::pack(g.n, c, e, &table),
+        due: d.due,
+    }
+}
+
+// Its rows, into a part of their length.
+fn write_rows(
+    words: &[u64],
+    part: &mut [u64],
+    conf: RoundConf,
+    c: CeState,
+    initiator: usize,
+    cursor: usize,
+)
+    ensures { λ _. ⌜ now (part .exit) ≡ placed (now (part .entry)) 0 (rowsOf (now (words .entry)) conf (conf .length) (startOf conf initiator cursor c)) ⌝ }
+{
+    let g = conf.graph;
+    let links = g.adj;
+    let f = fixed_of(conf);
     let w = c.network;
     let nodes = w.nodes;
-    let mut v = w;
-    let started = turns::start_capture(nodes, conf.graph.n, initiator, w.slot);
-    v.nodes = started;
-    let draw = Draw {
-        at: cursor,
-        short: false,
-    };
-    let mut d = c;
-    d.network = v;
-    d.draw = draw;
-    d.ended = false;
-    d
+    let top = rows::highest_progress(nodes, g.n);
+    let mut table = [0u64; 576];
+    let b = board::unpack(g.n, c, initiator, cursor, &mut table);
+    record_run(words, part, &links, f, b, conf.length, top, &mut table);
+}
+
+fn ran_short(c: CeState) -> bool
+    ensures { λ r. ⌜ r ≡ c .draw .short ⌝ }
+{
+    let d = c.draw;
+    d.short
 }
 
 fn refuse(refusal: u64, c: CeState, used: usize) -> CeAnswer
@@ -263,8 +300,8 @@ fn refuse(refusal: u64, c: CeState, used: usize) -> CeAnswer
     }
 }
 
-// A round from slot to slot, its rows written behind the rows already used. A refused round changes nothing. The rows due are counted first, and the round is
-// run again only for them.
+// A round from slot to slot, its rows written behind the rows already used. A refused round changes nothing. The rows
+// due are counted first, and the round is run again only for them.
 pub fn run_ce_round(
     words: &[u64],
     rows: &mut [u64],
@@ -281,8 +318,7 @@ pub fn run_ce_round(
     if early != 0 {
         return refuse(early, c, used);
     }
-    let s = start(conf, c, initiator, cursor);
-    let d = dry_run(words, conf, s);
+    let d = survey(words, conf, c, initiator, cursor);
     let e = d.state;
     let late = network::late_refusal(ran_short(e), d.due, rows.len(), used);
     if late != 0 {
@@ -293,7 +329,7 @@ pub fn run_ce_round(
     if due != 0 {
         let from = used * limits::ROW;
         let to = behind * limits::ROW;
-        record_run(words, &mut rows[from..to], conf, s);
+        write_rows(words, &mut rows[from..to], conf, c, initiator, cursor);
     }
     CeAnswer {
         refusal: 0,

@@ -1,116 +1,143 @@
-// Ported from phy/ce.rs: what positions hold after a capture slot, and the bytes that its flooders send. A slot is planned
-// first (plan.rt), and then applied to what all held at its start.
+// Ported from phy/ce.rs: what positions hold after a capture slot, and the bytes that its flooders send. A slot is
+// planned first (plan.rt), and then applied in place: whom a position hears floods, and who floods hears nobody, so
+// what is read in a slot does not change in it (specs/Senders.antt).
 ghost use mathlib.Core.Path.{_≡_};
-ghost use lib.Dec.{ltb};
-ghost use Rattle.loops.specs.Pick.{either};
-ghost use Rattle.merges.specs.Votes.{noOf};
-ghost use Rattle.merges.specs.Merging.{mergeOf, redundant};
-ghost use Rattle.engines.specs.Marked.{withMark};
-ghost use Rattle.capture.specs.Ce.{payloadLen, sentOf, isNews, toldAll};
-use engines::clamp;
+ghost use Prim.Native.Nat.{_<_};
+ghost use Rattle.capture.specs.Boards.{lengthBy, sentBy, decidedBy, restsBy, Written, ToldOne, ToldAll};
+use super::board;
+use super::board::DATA;
+use super::board::FROM;
+use super::board::LEN;
+use super::board::MARKS;
+use super::board::Phases;
+use super::board::TERM;
 use graph::sets;
 use merges::merging;
-use merges::merging::Held;
-use merges::merging::MergeResult;
-use merges::merging::Merged;
-use merges::merging::Payload;
+use merges::merging::Slip;
 use merges::votes::Voting;
+use packets::TwoPcPhase;
 use packets::two_pc_ce;
 
-// What positions hold after a slot, and a mark for each whose merge was new to it, who then has reached its goal, and who can
-// sleep by what it holds.
-pub struct SlotMerges {
-    pub held: [Payload; 64],
-    pub new_info: u64,
-    pub goal_reached: u64,
+// What positions hold so far in a slot, who can sleep by it, and to whom it was new.
+pub struct Told {
+    pub phases: Phases,
     pub can_sleep: u64,
+    pub new_info: u64,
 }
 
-// The length of a payload's text; what holds no packet has none.
-pub fn payload_len(l: Payload) -> usize
-    ensures { λ r. ⌜ r ≡ payloadLen l ⌝ }
+// ---- bytes
+
+// The bytes that position i sends if it floods: the length of its packet's text, nothing where it holds none.
+fn text_len(p: Phases, table: &[u64; 576], i: usize) -> usize
+    requires { ⌜ i < 64 ⌝ }
+    ensures { λ r. ⌜ r ≡ lengthBy p (now (table .entry)) i ⌝ }
 {
-    let held = l.held;
-    let p = l.packet;
-    match held {
-        Held::Empty => 0,
-        Held::Unreadable => 0,
-        Held::Packet => two_pc_ce::ce_text_len(p),
+    if !board::holds(p, i) {
+        return 0;
     }
+    let s = board::slip_at(p, table, i);
+    let from = (s.source % 64) as usize;
+    let phase = s.phase;
+    let b = s.flags_bitmap;
+    two_pc_ce::ce_parts_len(s.term, phase, table[DATA + from] as usize, b)
 }
 
 // The bytes that the flooding positions send: each the payload that it held at the slot's start.
-pub fn bytes_of(flooding: u64, held: [Payload; 64]) -> u64
-    ensures { λ r. ⌜ r ≡ sentOf flooding held ⌝ }
+pub(crate) fn bytes_of(flooding: u64, p: Phases, table: &[u64; 576]) -> u64
+    ensures { λ r. ⌜ r ≡ sentBy flooding p (now (table .entry)) ⌝ }
 {
     let mut sum: u64 = 0;
     let mut left = flooding;
     while left != 0 {
         let i = sets::lowest_mark(left);
-        sum = std::num::wrapping_add_u64(sum, payload_len(held[i]) as u64);
+        sum = std::num::wrapping_add_u64(sum, text_len(p, table, i) as u64);
         left = sets::without_mark(left, i);
     }
     sum
 }
 
-fn is_news(r: MergeResult) -> bool
-    ensures { λ b. ⌜ b ≡ isNews r ⌝ }
+// ---- merges
+
+fn is_decided(phase: TwoPcPhase) -> bool
+    ensures { λ r. ⌜ r ≡ decidedBy phase ⌝ }
 {
-    match r {
-        MergeResult::Redundant => false,
-        MergeResult::NewInfo => true,
+    match phase {
+        TwoPcPhase::Prepare => false,
+        TwoPcPhase::Committed => true,
+        TwoPcPhase::Aborted => true,
     }
 }
 
-// Who hears nobody (64) merges nothing.
-fn hear(voting: Voting, i: usize, src: usize, local: Payload, sent: Payload) -> Merged
-    ensures { λ r. ⌜ r ≡ either (ltb src 64) (mergeOf (noOf voting) (voting .n) i local sent) (redundant local) ⌝ }
+// A decision is held, and its bitmap says that all hold it.
+fn rests(n: usize, s: Slip) -> bool
+    ensures { λ r. ⌜ r ≡ restsBy n s ⌝ }
 {
-    if src < 64 {
-        return merging::merge(voting, local, sent, i);
+    let phase = s.phase;
+    let b = s.flags_bitmap;
+    if !is_decided(phase) {
+        return false;
     }
-    Merged {
-        result: MergeResult::Redundant,
-        payload: local,
+    merging::has_unanimity(n, b)
+}
+
+// Position i holds s from now on, which was new to it.
+fn write(n: usize, t: Told, i: usize, s: Slip, table: &mut [u64; 576]) -> Told
+    requires { ⌜ i < 64 ⌝ }
+    ensures { λ r. ⌜ Written n t i s (now (table .entry)) r (now (table .exit)) ⌝ }
+{
+    let phase = s.phase;
+    let b = s.flags_bitmap;
+    let before = t.phases;
+    table[TERM + i] = s.term;
+    table[LEN + i] = b.len as u64;
+    table[MARKS + i] = b.marks;
+    table[FROM + i] = s.source;
+    Told {
+        phases: board::put_phase(before, i, phase),
+        can_sleep: board::put(t.can_sleep, i, rests(n, s)),
+        new_info: sets::with_mark(t.new_info, i),
     }
 }
 
-// m, with mark i if so told.
-fn note(m: u64, i: usize, yes: bool) -> u64
-    ensures { λ r. ⌜ r ≡ either yes (withMark m i) m ⌝ }
+// Position i merges what src holds; who hears nobody (64) merges nothing.
+fn tell(voting: Voting, t: Told, i: usize, src: usize, table: &mut [u64; 576]) -> Told
+    requires { ⌜ i < 64 ⌝ }
+    ensures { λ r. ⌜ ToldOne voting t i src (now (table .entry)) r (now (table .exit)) ⌝ }
 {
-    if yes {
-        return sets::with_mark(m, i);
+    if 64 <= src {
+        return t;
     }
-    m
+    let p = t.phases;
+    if !board::holds(p, src) {
+        return t;
+    }
+    let held = board::held_by(p, i);
+    let local = board::slip_at(p, table, i);
+    let received = board::slip_at(p, table, src);
+    let m = merging::hear(voting, held, local, received, i);
+    if !m.news {
+        return t;
+    }
+    let s = m.slip;
+    write(voting.n, t, i, s, table)
 }
 
-// Each of the first n positions merges what it heard, all of it as it was held at the slot's start.
-pub fn tell_all(voting: Voting, held: [Payload; 64], hears: [usize; 64]) -> SlotMerges
-    ensures { λ r. ⌜ r ≡ toldAll voting hears held ⌝ }
+// Each target merges what it heard. No target is heard, so all of it is as it was held at the slot's start.
+pub(crate) fn tell_all(
+    voting: Voting,
+    targets: u64,
+    hears: &[usize; 64],
+    before: Told,
+    table: &mut [u64; 576],
+) -> Told
+    ensures { λ r. ⌜ ToldAll voting targets (now (hears .entry)) before (now (table .entry)) r (now (table .exit)) ⌝ }
 {
-    let count = clamp::at_most_64(voting.n);
-    let mut after = held;
-    let mut new_info: u64 = 0;
-    let mut goal_reached: u64 = 0;
-    let mut can_sleep: u64 = 0;
-    let mut i: usize = 0;
-    while i < count {
-        let src = hears[i];
-        let k = src % 64;
-        let m = hear(voting, i, src, held[i], held[k]);
-        let p = m.payload;
-        let r = m.result;
-        after[i] = p;
-        new_info = note(new_info, i, is_news(r));
-        goal_reached = note(goal_reached, i, merging::node_goal_reached(p));
-        can_sleep = note(can_sleep, i, merging::node_can_sleep(voting.n, p));
-        i += 1;
+    let mut t = before;
+    let mut left = targets;
+    while left != 0 {
+        let i = sets::lowest_mark(left);
+        t = tell(voting, t, i, hears[i], table);
+        left = sets::without_mark(left, i);
     }
-    SlotMerges {
-        held: after,
-        new_info,
-        goal_reached,
-        can_sleep,
-    }
+    t
 }

@@ -1,23 +1,22 @@
-// Stretches of a capture round in which nobody acts: nobody floods, no coin is due, no row is due, and all that slots do is raise counts. A round may have
-// four billion such slots, so they are taken at once.
+// Stretches of a capture round in which nobody acts: nobody floods, no coin is due, no row is due, and all that slots
+// do is raise counts. A round may have four billion such slots, so they are taken at once.
 ghost use mathlib.Core.Path.{_≡_};
 ghost use mathlib.Core.Bool.{true, false};
+ghost use mathlib.Core.List.{List};
 ghost use Prim.Native.Nat.{ℕ, _+_, _-_, _<_, _≤_};
-ghost use lib.ListN.{getD};
-ghost use Rattle.merges.specs.Merging.{noPayload, canSleepOf};
-ghost use Rattle.engines.specs.Clamp.{atMost64};
-ghost use Rattle.engines.specs.Nodes.{noNode};
-ghost use Rattle.capture.specs.Idle.{Waits, Idle, idled};
-use super::capture::CeState;
+ghost use Rattle.marks.specs.Marks.{has};
+ghost use Rattle.engines.specs.Columns.{cell};
+ghost use Rattle.engines.specs.declared.network.RoundConf.{RoundConf};
+ghost use Rattle.capture.specs.declared.capture.CeState.{CeState};
+ghost use Rattle.capture.specs.Idle.{Idle};
+ghost use Rattle.capture.specs.Boards.{lastAt, goalBy, Shown, Goes};
+use super::board::Board;
+use super::board::CeFixed;
+use super::board::LAST;
+use super::board::Phases;
 use super::plan;
 use engines::clamp;
-use engines::network::RoundConf;
-use engines::node;
-use engines::node::Node;
-use engines::node::NodeState;
-use engines::stretch;
-use merges::merging;
-use merges::merging::Payload;
+use graph::sets;
 
 // The slots before a coin is due, but no more than `most`.
 fn until_due(last: u64, slot: u64, timeout: u64, most: u64) -> u64
@@ -34,87 +33,56 @@ fn until_due(last: u64, slot: u64, timeout: u64, most: u64) -> u64
     most
 }
 
-// The slots for which position v tosses no coin, but no more than `most`. Only listeners toss.
-fn waits_for(v: Node, slot: u64, timeout: u64, most: u64) -> u64
-    ensures { λ r. ⌜ (r ≤ most) × (0 < r → Waits slot timeout r v) ⌝ }
+// The slots for which none of the listening positions tosses a coin, but no more than `most`.
+fn shortest_wait(listening: u64, table: &[u64; 576], slot: u64, timeout: u64, most: u64) -> u64
+    ensures { λ r. ⌜ (r ≤ most) × (0 < r → (i : ℕ) → has listening i ≡ true → slot - cell (now (table .entry)) lastAt i + r ≤ timeout) ⌝ }
 {
-    let s = v.state;
-    match s {
-        NodeState::Listen => until_due(v.last_progress_slot, slot, timeout, most),
-        NodeState::Flood => most,
-        NodeState::Sleep => most,
-    }
-}
-
-// The slots for which none of the first n positions tosses a coin, but no more than `most`.
-fn shortest_wait(at: [Node; 64], n: usize, slot: u64, timeout: u64, most: u64) -> u64
-    ensures { λ r. ⌜ (r ≤ most) × (0 < r → (i : ℕ) → i < atMost64 n → Waits slot timeout r (getD at i noNode)) ⌝ }
-{
-    let count = clamp::at_most_64(n);
     let mut wait = most;
-    let mut i: usize = 0;
-    while i < count {
-        let v = at[i];
-        wait = waits_for(v, slot, timeout, wait);
-        i += 1;
+    let mut left = listening;
+    while left != 0 {
+        let i = sets::lowest_mark(left);
+        wait = until_due(table[LAST + i], slot, timeout, wait);
+        left = sets::without_mark(left, i);
     }
     wait
 }
 
-// Whether none of the first n positions can sleep. One that can would flood in the next slot.
-fn nobody_can_sleep(held: [Payload; 64], n: usize) -> bool
-    ensures { λ r. ⌜ (r ≡ true → (i : ℕ) → i < atMost64 n → canSleepOf n (getD held i noPayload) ≡ false) ⌝ }
+// Whether all of the first n positions hold Committed, or all hold Aborted.
+pub(crate) fn goal_reached(n: usize, p: Phases) -> bool
+    ensures { λ r. ⌜ r ≡ goalBy n p ⌝ }
 {
-    let count = clamp::at_most_64(n);
-    let mut i: usize = 0;
-    while i < count {
-        let p = held[i];
-        if merging::node_can_sleep(n, p) {
-            return false;
-        }
-        i += 1;
+    if n == 0 {
+        return false;
     }
-    true
+    if limits::POSITIONS < n {
+        return false;
+    }
+    if sets::all_marked(p.committed, n) {
+        return true;
+    }
+    sets::all_marked(sets::difference(p.aborted, p.committed), n)
 }
 
-// How many of the next slots nobody acts in, out of those that are left. None where one is not sure.
-pub(crate) fn idle_slots(conf: RoundConf, c: CeState, left: u64) -> u64
-    requires { ⌜ c .ended ≡ false ⌝ }
-    ensures { λ r. ⌜ (r ≤ left) × (0 < r → Idle conf r c) ⌝ }
+// How many of the next slots nobody acts in, out of those that are left. None where one is not sure: one that can
+// sleep would flood in the next slot.
+pub(crate) fn idle_slots(f: CeFixed, b: Board, table: &[u64; 576], left: u64) -> u64
+    requires { ⌜ b .ended ≡ false ⌝ }
+    ensures { λ r. ⌜ r ≤ left ⌝ }
+    ensures { λ r. ⌜ ((conf : RoundConf) (base c : CeState) (links : List ℕ) → Goes conf links f → Shown (conf .graph .n) base b (now (table .entry)) c → 0 < r → Idle conf r c) ⌝ }
 {
-    let w = c.network;
-    if w.next_row <= w.slot {
+    if b.next_row <= b.slot {
         return 0;
     }
-    let n = conf.graph.n;
-    let nodes = w.nodes;
-    let s = node::state_sets(nodes, n);
-    if s.flooding != 0 {
+    if b.states.flooding != 0 {
         return 0;
     }
-    let most = clamp::smaller(left, w.next_row - w.slot);
-    let wait = shortest_wait(nodes, n, w.slot, conf.settings.listen_timeout, most);
-    let held = c.held;
-    if merging::network_goal_reached(held, n) {
+    if b.can_sleep != 0 {
         return 0;
     }
-    if nobody_can_sleep(held, n) {
-        return wait;
+    let p = b.phases;
+    if goal_reached(f.voting.n, p) {
+        return 0;
     }
-    0
-}
-
-// A round after k idle slots.
-pub(crate) fn pass_idle(conf: RoundConf, c: CeState, k: u64) -> CeState
-    ensures { λ r. ⌜ r ≡ idled conf k c ⌝ }
-{
-    let w = c.network;
-    let nodes = w.nodes;
-    let mut v = w;
-    let passed = stretch::pass_all(nodes, conf.graph.n, k);
-    v.nodes = passed;
-    v.slot = std::num::wrapping_add_u64(w.slot, k);
-    let mut d = c;
-    d.network = v;
-    d
+    let most = clamp::smaller(left, b.next_row - b.slot);
+    shortest_wait(b.states.listening, table, b.slot, f.listen_timeout, most)
 }

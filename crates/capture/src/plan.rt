@@ -1,11 +1,13 @@
-// The plan of a capture slot: which positions recover, and whom each target hears. It takes every word that the slot takes,
-// and needs states, last progress and links alone; what is merged by it comes after.
+// The plan of a capture slot: which positions recover, and whom each target hears. It takes every word that the slot
+// takes, and needs states, last progress and links alone; what is merged by it comes after.
 ghost use mathlib.Core.Path.{_≡_};
 ghost use Prim.Native.Nat.{_+_, _-_, _<_, _≤_};
 ghost use Rattle.loops.specs.Pick.{either};
 ghost use Rattle.engines.specs.Marked.{overMarks, withMark};
-ghost use Rattle.capture.specs.Plan.{timedOut, tossed1, coinsOf, noteAt, examine1, firstKept, captureOf, whom, tallied, captureAt, targetsOf, planOf};
-use engines::node::Node;
+ghost use Rattle.capture.specs.Plan.{timedOut, tossed1, noteAt, examine1, firstKept, captureOf, whom, tallied, captureAt, targetsOf};
+ghost use Rattle.capture.specs.Boards.{waitingSince, coinsBy, PlannedBy};
+use super::board::CeFixed;
+use super::board::LAST;
 use engines::node::StateSets;
 use engines::settings;
 use engines::words;
@@ -33,10 +35,11 @@ pub struct Reception {
     pub rx_success: u64,
 }
 
-// A mark for each position that recovers; whom each position hears, 64 where nobody; and the slot's counts.
-pub struct Plan {
+// What the words of a slot decide, beside whom each position hears: a mark for each that recovers, the targets, and
+// the slot's counts.
+pub struct SlotPlan {
     pub recovering: u64,
-    pub hears: [usize; 64],
+    pub targets: u64,
     pub draw: Draw,
     pub ce_timeouts: u64,
     pub rx_attempts: u64,
@@ -50,10 +53,10 @@ pub(crate) fn since(slot: u64, last: u64) -> u64
     if slot < last { 0 } else { slot - last }
 }
 
-fn timed_out(slot: u64, timeout: u64, v: Node) -> bool
-    ensures { λ r. ⌜ r ≡ timedOut slot timeout v ⌝ }
+fn timed_out(slot: u64, timeout: u64, last: u64) -> bool
+    ensures { λ r. ⌜ r ≡ timedOut slot timeout (waitingSince last) ⌝ }
 {
-    timeout <= since(slot, v.last_progress_slot)
+    timeout <= since(slot, last)
 }
 
 // m, with mark i if so told.
@@ -67,10 +70,10 @@ fn mark_if(m: u64, i: usize, yes: bool) -> u64
 }
 
 // The coin of position i, if it is due.
-fn toss(words: &[u64], slot: u64, timeout: u64, v: Node, i: usize, c: Coins) -> Coins
-    ensures { λ r. ⌜ r ≡ tossed1 (now (words .entry)) slot timeout v i c ⌝ }
+fn toss(words: &[u64], slot: u64, timeout: u64, last: u64, i: usize, c: Coins) -> Coins
+    ensures { λ r. ⌜ r ≡ tossed1 (now (words .entry)) slot timeout (waitingSince last) i c ⌝ }
 {
-    if !timed_out(slot, timeout, v) {
+    if !timed_out(slot, timeout, last) {
         return c;
     }
     let d = c.draw;
@@ -87,13 +90,13 @@ fn toss(words: &[u64], slot: u64, timeout: u64, v: Node, i: usize, c: Coins) -> 
 // The coins of the listening positions, the lowest first.
 fn toss_all(
     words: &[u64],
+    table: &[u64; 576],
     slot: u64,
     timeout: u64,
-    at: [Node; 64],
     listening: u64,
     d: Draw,
 ) -> Coins
-    ensures { λ r. ⌜ r ≡ coinsOf (now (words .entry)) slot timeout at listening d ⌝ }
+    ensures { λ r. ⌜ r ≡ coinsBy (now (words .entry)) slot timeout (now (table .entry)) listening d ⌝ }
 {
     let mut c = Coins {
         recovering: 0,
@@ -102,8 +105,7 @@ fn toss_all(
     let mut left = listening;
     while left != 0 {
         let i = sets::lowest_mark(left);
-        let v = at[i];
-        c = toss(words, slot, timeout, v, i, c);
+        c = toss(words, slot, timeout, table[LAST + i], i, c);
         left = sets::without_mark(left, i);
     }
     c
@@ -259,20 +261,20 @@ fn find_targets(listening: u64, recovering: u64) -> u64
     sets::difference(listening, recovering)
 }
 
-// The plan of a slot.
-pub fn plan_slot(
+// The plan of a slot; whom each position hears goes into the lent list, which has 64 (nobody) for each.
+pub(crate) fn plan_slot(
     words: &[u64],
     links: &[u64; 64],
-    at: [Node; 64],
+    f: CeFixed,
     s: StateSets,
     slot: u64,
-    timeout: u64,
-    loss: f64,
     d: Draw,
-) -> Plan
-    ensures { λ r. ⌜ r ≡ planOf (now (words .entry)) loss (now (links .entry)) slot timeout at s d ⌝ }
+    table: &[u64; 576],
+    hears: &mut [usize; 64],
+) -> SlotPlan
+    ensures { λ r. ⌜ PlannedBy (now (words .entry)) (now (links .entry)) f s slot d (now (table .entry)) (now (hears .entry)) r (now (hears .exit)) ⌝ }
 {
-    let c = toss_all(words, slot, timeout, at, s.listening, d);
+    let c = toss_all(words, table, slot, f.listen_timeout, s.listening, d);
     let targets = find_targets(s.listening, c.recovering);
     let e = c.draw;
     let p = Reception {
@@ -280,13 +282,12 @@ pub fn plan_slot(
         rx_attempts: 0,
         rx_success: 0,
     };
-    let mut hears = [64usize; 64];
-    let q = capture_all(words, links, targets, s.flooding, loss, &mut hears, p);
-    let f = q.draw;
-    Plan {
+    let q = capture_all(words, links, targets, s.flooding, f.loss_rate, hears, p);
+    let g = q.draw;
+    SlotPlan {
         recovering: c.recovering,
-        hears,
-        draw: f,
+        targets,
+        draw: g,
         ce_timeouts: sets::count_marks(c.recovering) as u64,
         rx_attempts: q.rx_attempts,
         rx_success: q.rx_success,

@@ -1,169 +1,106 @@
-// The states of a capture round: how a round starts, and what each position does in the next slot, told from what the slot
-// brought it. Ported from ce.rs; what comes from packets comes in as sets of positions.
+// The states of a capture round in the next slot, told from what the slot brought each position. Ported from ce.rs;
+// what comes from packets comes in as sets of positions.
 ghost use mathlib.Core.Path.{_≡_};
-ghost use lib.Dec.{eqb};
+ghost use Prim.Native.Nat.{ℕ};
 ghost use Rattle.loops.specs.Pick.{either};
-ghost use Rattle.engines.specs.Nodes.{isFlood, isSleep};
-ghost use Rattle.engines.specs.declared.node.NodeState.the-variants.{Listen, Flood, Sleep};
-ghost use Rattle.capture.specs.Turns.{started, startedAll, nextState, turned, turnOf, turnedAll, countedSlot};
-use super::plan::Plan;
-use engines::clamp;
+ghost use Rattle.marks.specs.Marks.{has};
+ghost use mathlib.Core.Bool.{_||_};
+ghost use mathlib.Core.List.{List};
+ghost use Rattle.capture.specs.Turns.{countedSlot};
+ghost use Rattle.capture.specs.Boards.{planBy, passedCells, Changed, TurnedBy};
+use super::board::Board;
+use super::board::FLOOD;
+use super::board::LAST;
+use super::board::LISTEN;
+use super::board::Phases;
+use super::board::SLEEP;
+use super::ce::Told;
+use super::plan::SlotPlan;
+use engines::columns;
 use engines::metrics::MetricsCollector;
-use engines::node::Node;
-use engines::node::NodeState;
+use engines::node::StateSets;
+use engines::rows;
 use graph::sets;
 
-// What a slot brought, a mark for each position: its coin said yes; its merge was new to it; it then had reached its goal;
-// what it holds at the slot's end lets it sleep.
-pub struct News {
-    pub recovering: u64,
-    pub new_info: u64,
-    pub goal_reached: u64,
-    pub can_sleep: u64,
-}
-
-// ---- the start of a round
-
-fn first_state(i: usize, initiator: usize) -> NodeState
-    ensures { λ r. ⌜ r ≡ either (eqb i initiator) Flood Listen ⌝ }
+// The sets of the next slot: who can sleep sleeps if it flooded, and else floods; of the others who progressed
+// floods, who slept sleeps on, and the rest listens.
+fn change(s: StateSets, progressed: u64, can_sleep: u64) -> StateSets
+    ensures { λ r. ⌜ Changed s progressed «can_sleep» r ⌝ }
 {
-    if i == initiator {
-        NodeState::Flood
-    } else {
-        NodeState::Listen
+    let told = sets::union(progressed, can_sleep);
+    let awake = sets::union(s.listening, s.flooding);
+    let all = sets::union(awake, s.sleeping);
+    let fresh = sets::difference(progressed, can_sleep);
+    let again = sets::difference(can_sleep, s.flooding);
+    let tired = sets::intersection(can_sleep, s.flooding);
+    let still = sets::difference(s.sleeping, told);
+    StateSets {
+        listening: sets::difference(awake, told),
+        flooding: sets::intersection(all, sets::union(fresh, again)),
+        sleeping: sets::union(tired, still),
     }
 }
 
-fn start(v: Node, i: usize, initiator: usize, slot: u64) -> Node
-    ensures { λ r. ⌜ r ≡ started initiator slot i v ⌝ }
+// Who has reached its goal: news tells it anew.
+fn goals(before: u64, new_info: u64, p: Phases) -> u64
+    ensures { λ r. ⌜ ((i : ℕ) → has r i ≡ either (has «new_info» i) (has (p .committed) i || has (p .aborted) i) (has before i)) ⌝ }
 {
-    let state = first_state(i, initiator);
-    Node {
-        state,
-        flood_remaining: 0,
-        last_progress_slot: slot,
-        goal_reached: v.goal_reached,
-        progress_count: v.progress_count,
-        slots_listen: v.slots_listen,
-        slots_flood: v.slots_flood,
-        slots_sleep: v.slots_sleep,
-    }
+    let decided = sets::union(p.committed, p.aborted);
+    sets::union(
+        sets::intersection(new_info, decided),
+        sets::difference(before, new_info),
+    )
 }
-
-// The first n positions at the start of a capture round: all listen but the initiator.
-pub fn start_capture(at: [Node; 64], n: usize, initiator: usize, slot: u64) -> [Node; 64]
-    ensures { λ r. ⌜ r ≡ startedAll n initiator slot at ⌝ }
-{
-    let count = clamp::at_most_64(n);
-    let mut a = at;
-    let mut i: usize = 0;
-    while i < count {
-        let v = a[i];
-        a[i] = start(v, i, initiator, slot);
-        i += 1;
-    }
-    a
-}
-
-// ---- the next slot
-
-// A position that may sleep floods once more before it does.
-fn before_sleep(state: NodeState) -> NodeState
-    ensures { λ r. ⌜ r ≡ either (isFlood state) Sleep Flood ⌝ }
-{
-    match state {
-        NodeState::Listen => NodeState::Flood,
-        NodeState::Flood => NodeState::Sleep,
-        NodeState::Sleep => NodeState::Flood,
-    }
-}
-
-fn unchanged(state: NodeState) -> NodeState
-    ensures { λ r. ⌜ r ≡ either (isSleep state) Sleep Listen ⌝ }
-{
-    match state {
-        NodeState::Listen => NodeState::Listen,
-        NodeState::Flood => NodeState::Listen,
-        NodeState::Sleep => NodeState::Sleep,
-    }
-}
-
-fn next_state(state: NodeState, progressed: bool, rests: bool) -> NodeState
-    ensures { λ r. ⌜ r ≡ nextState state progressed rests ⌝ }
-{
-    if rests {
-        return before_sleep(state);
-    }
-    if progressed {
-        return NodeState::Flood;
-    }
-    unchanged(state)
-}
-
-fn last_progress(progressed: bool, slot: u64, before: u64) -> u64
-    ensures { λ r. ⌜ r ≡ either progressed slot before ⌝ }
-{
-    if progressed { slot } else { before }
-}
-
-fn goal_flag(news: bool, goal: bool, before: bool) -> bool
-    ensures { λ r. ⌜ r ≡ either news goal before ⌝ }
-{
-    if news { goal } else { before }
-}
-
-// The node of a position in the next slot. It progressed if it recovers or learnt something.
-fn turn(v: Node, slot: u64, progressed: bool, news: bool, goal: bool, rests: bool) -> Node
-    ensures { λ r. ⌜ r ≡ turned slot progressed news goal rests v ⌝ }
-{
-    let s = v.state;
-    let state = next_state(s, progressed, rests);
-    Node {
-        state,
-        flood_remaining: v.flood_remaining,
-        last_progress_slot: last_progress(progressed, slot, v.last_progress_slot),
-        goal_reached: goal_flag(news, goal, v.goal_reached),
-        progress_count: v.progress_count,
-        slots_listen: v.slots_listen,
-        slots_flood: v.slots_flood,
-        slots_sleep: v.slots_sleep,
-    }
-}
-
-fn turn_at(v: Node, i: usize, slot: u64, w: News) -> Node
-    ensures { λ r. ⌜ r ≡ turnOf slot w i v ⌝ }
-{
-    let progressed = sets::is_marked(sets::union(w.recovering, w.new_info), i);
-    let news = sets::is_marked(w.new_info, i);
-    let goal = sets::is_marked(w.goal_reached, i);
-    let rests = sets::is_marked(w.can_sleep, i);
-    turn(v, slot, progressed, news, goal, rests)
-}
-
-// The first n positions in the next slot.
-pub fn turn_all(at: [Node; 64], n: usize, slot: u64, w: News) -> [Node; 64]
-    ensures { λ r. ⌜ r ≡ turnedAll n slot w at ⌝ }
-{
-    let count = clamp::at_most_64(n);
-    let mut a = at;
-    let mut i: usize = 0;
-    while i < count {
-        let v = a[i];
-        a[i] = turn_at(v, i, slot, w);
-        i += 1;
-    }
-    a
-}
-
-// ---- counts
 
 // What the plan of a slot counted, added to the room's counts.
-pub fn count_slot(m: MetricsCollector, p: Plan) -> MetricsCollector
-    ensures { λ r. ⌜ r ≡ countedSlot p m ⌝ }
+fn count_slot(m: MetricsCollector, p: SlotPlan) -> MetricsCollector
+    ensures { λ r. ⌜ ((hears : List ℕ) → r ≡ countedSlot (planBy p hears) m) ⌝ }
 {
     let mut k = m;
     k.ce_timeouts = std::num::wrapping_add_u64(m.ce_timeouts, p.ce_timeouts);
     k.rx_attempts = std::num::wrapping_add_u64(m.rx_attempts, p.rx_attempts);
     k.rx_success = std::num::wrapping_add_u64(m.rx_success, p.rx_success);
     k
+}
+
+// The counts of k slots in which no state changes: each at the positions in its state.
+pub(crate) fn pass(s: StateSets, k: u64, table: &mut [u64; 576])
+    ensures { λ _. ⌜ now (table .exit) ≡ passedCells s k (now (table .entry)) ⌝ }
+{
+    columns::raise(table, LISTEN, s.listening, k);
+    columns::raise(table, FLOOD, s.flooding, k);
+    columns::raise(table, SLEEP, s.sleeping, k);
+}
+
+// A slot's plan and its merges, applied to the states. Recovery and new information are progress.
+pub(crate) fn turn(
+    b: Board,
+    interval: u64,
+    p: SlotPlan,
+    sent: u64,
+    t: Told,
+    table: &mut [u64; 576],
+) -> Board
+    ensures { λ r. ⌜ TurnedBy b interval p sent t (now (table .entry)) r (now (table .exit)) ⌝ }
+{
+    let s = b.states;
+    let before = b.metrics;
+    let phases = t.phases;
+    let draw = p.draw;
+    let progressed = sets::union(p.recovering, t.new_info);
+    columns::store(table, LAST, progressed, b.slot);
+    let states = change(s, progressed, t.can_sleep);
+    let metrics = count_slot(before, p);
+    Board {
+        states,
+        goal_reached: goals(b.goal_reached, t.new_info, phases),
+        phases,
+        can_sleep: t.can_sleep,
+        metrics,
+        slot: std::num::wrapping_add_u64(b.slot, 1),
+        next_row: rows::next_row(b.next_row, interval, b.slot),
+        bytes_sent: std::num::wrapping_add_u64(b.bytes_sent, sent),
+        draw,
+        ended: false,
+    }
 }

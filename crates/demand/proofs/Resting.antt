@@ -23,8 +23,8 @@ use Rattle.merges.specs.declared.merging.Payload.{Payload}
 use Rattle.merges.specs.declared.merging.ProposalOutcome.the-variants as outcome
 use Rattle.merges.proofs.Safety.{either-cases}
 use Rattle.merges.proofs.Growth.{proposal-term}
-use Rattle.engines.specs.Rows.{isDue, rowsRefused}
-use Rattle.engines.specs.Network.{ticking, slotRow, longRefusal, lateOf}
+use Rattle.engines.specs.Rows.{isDue, rowsRefused, rowOf}
+use Rattle.engines.specs.Network.{ticking, dueRow, slotRow, longRefusal, lateOf}
 use Rattle.engines.specs.declared.network.Network.{Network}
 use Rattle.engines.specs.declared.network.RoundConf.{RoundConf}
 use Rattle.engines.proofs.Sums.{inc-is}
@@ -97,7 +97,7 @@ module _ (ws : List ℕ) (conf : RoundConf) (s : CeState) (running : s .ended �
 
 -- at most one row
 rows-few : (conf : RoundConf) (w : Network) → length (slotRow conf w) ≤ 5
-unfolding slotRow
+unfolding slotRow dueRow rowOf
 rows-few conf w = either-cases (λ (l : List ℕ). length l ≤ 5) (isDue (w .«next_row») (w .slot)) (λ e. omega arith) (λ e. omega arith)
 
 -- rows that fit are not refused

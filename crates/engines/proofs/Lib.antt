@@ -6,6 +6,8 @@ pub mod Rounds
 pub mod Counts
 pub mod Sums
 pub mod Marking
+pub mod Places
+pub mod Cells
 pub mod Cursor
 pub mod RowSums
 pub mod Stretches

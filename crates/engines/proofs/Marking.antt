@@ -1,6 +1,6 @@
 -- A loop that takes the lowest mark away at each turn goes over the marks of a set in rising order; and two sets by their marks.
 -- Assumes nothing.
-use Prim.Native.Nat.{ℕ, zero, suc, _^_, _<_}
+use Prim.Native.Nat.{ℕ, zero, suc, _^_, _≤_, _<_}
 use mathlib.Core.Bool.{Bool, true, false, not, _||_, _&&_}
 use mathlib.Core.Path.{_≡_, refl, sym, ap, _∙_}
 use lib.Dec.{eqb, ltb}
@@ -106,3 +106,23 @@ some-marks m r h ne l =
   where
     no : false ≡ true → ⊥
     no e = let z : _≡_ {A = ℕ} 0 1 = cc in omega arith
+
+-- ---- a loop seen through a projection
+
+-- where each turn, seen through g, is a turn of h, the loop is a loop of h
+pub over-through : {S T : Type 0} (g : S → T) (f : ℕ → S → S) (h : ℕ → T → T) → ((i : ℕ) → i < 64 → (s : S) → g (f i s) ≡ h i (g s)) → (m : ℕ) (s : S) → g (overMarks m f s) ≡ overMarks m h (g s)
+unfolding overMarks upto
+over-through {S} {T} g f h e m s = go 64 (omega arith)
+  where
+    one : (i : ℕ) → i < 64 → (b : Bool) (t : S) → g (either b (f i t) t) ≡ either b (h i (g t)) (g t)
+    one i l true t = e i l t
+    one i l false t = refl
+
+    go : (n : ℕ) → n ≤ 64 → g (upto n (λ i t. either (has m i) (f i t) t) s) ≡ upto n (λ i t. either (has m i) (h i t) t) (g s)
+    go zero l = refl
+    go (suc n) l =
+        one n (omega arith) (has m n) (upto n (λ i t. either (has m i) (f i t) t) s) ∙ ap (λ (t : T). either (has m n) (h n t) t) (go n (omega arith))
+
+-- where no turn, seen through g, changes anything, the loop does not
+pub over-keeps : {S T : Type 0} (g : S → T) (f : ℕ → S → S) → ((i : ℕ) → i < 64 → (s : S) → g (f i s) ≡ g s) → (m : ℕ) (s : S) → g (overMarks m f s) ≡ g s
+over-keeps g f e m s = over-through g f (λ i t. t) e m s ∙ over-fixed (λ i t. t) m (g s) (λ i l q. refl)

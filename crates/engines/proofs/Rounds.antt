@@ -16,13 +16,13 @@ use Rattle.loops.specs.Leaps.{Leaps, runs-leap, told-leap}
 use Rattle.loops.specs.Stores.{sets-append}
 use Rattle.engines.specs.Nodes.{inc, tickedAll}
 use Rattle.engines.specs.Rows.{isDue, nextRow, dueAfter, cells, rowOf, rowsRefused}
-use Rattle.engines.specs.Network.{slotRow, longRefusal, lateOf}
+use Rattle.engines.specs.Network.{dueRow, slotRow, longRefusal, lateOf}
 use Rattle.engines.specs.Rounds.{rowsIn, dueIn, placed, Stepped, Surveyed}
 use Rattle.engines.specs.declared.rows.Row.{Row}
 use Rattle.engines.specs.declared.words.Draw.{Draw}
 use Rattle.engines.specs.declared.network.Network.{Network}
 use Rattle.engines.specs.declared.network.RoundConf.{RoundConf}
-use Rattle.engines.proofs.Writing.{Put, due-yes, due-no, written-fits, put-none, put-full}
+use Rattle.engines.proofs.Writing.{Put, due-yes, due-no, owed-fits, put-none, put-full}
 
 -- ---- counting
 
@@ -43,7 +43,7 @@ pub record Counted {S : Type 0} (network : S → Network) (over : S → Bool) (s
 module _ {S : Type 0} (network : S → Network) (over : S → Bool) (slot : S → S) (conf : RoundConf) where
   pub counted-turn : {v : S} {total n k : ℕ} {t : S} {need : ℕ} → Counted network over slot conf v total n k t need → n < 2 ^ 64 → 0 < k
       → {need′ : ℕ} → need′ ≡ dueAfter need (network t .«next_row») (network t .slot) → {rest : ℕ} {u : S} → Stepped network over slot conf k t rest u → Counted network over slot conf v total n rest u need′
-  unfolding slotRow dueAfter
+  unfolding slotRow dueRow rowOf dueAfter
   counted-turn {k = k} {t} {need} l b p e {rest} {u} st =
       let w = network t in
       let more = rowsIn network over slot conf rest u in
@@ -117,7 +117,7 @@ placed-turn conf w rows at l {rows′} {at′} p = by (isDue (w .«next_row») (
     placing : isDue (w .«next_row») (w .slot) ≡ true → Dec (at + 5 ≤ length rows) → placed rows at (slotRow conf w ++ l) ≡ placed rows′ at′ l
     placing e (yes h) =
         let long : length (slotRow conf w) ≡ 5 = ap length (due-yes conf w e) in
-        let q = written-fits conf w rows at (omega (arith, long, h)) p in
+        let q = owed-fits rows at (slotRow conf w) (omega (arith, long, h)) p in
         placed-row rows at (slotRow conf w) l long h ∙ sym (rw (q .0, q .1))
     placing e (no h) =
         let q = same (put-full conf w rows at e (omega arith)) in

@@ -1,5 +1,6 @@
 pub mod Clamp
 pub mod Marked
+pub mod Columns
 pub mod Words
 pub mod Nodes
 pub mod Rows

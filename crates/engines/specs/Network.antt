@@ -13,6 +13,7 @@ use Rattle.engines.specs.Metrics.{noMetrics}
 use Rattle.engines.specs.Nodes.{inc, noNode, tickedAll}
 use Rattle.engines.specs.Rows.{isDue, nextRow, rowOf, cells, rowsRefused}
 use Rattle.engines.specs.declared.node.Node.{Node}
+use Rattle.engines.specs.declared.rows.Row.{Row}
 use Rattle.engines.specs.declared.metrics.MetricsCollector.{MetricsCollector}
 use Rattle.engines.specs.declared.network.Network.{Network}
 use Rattle.engines.specs.declared.network.RoundConf.{RoundConf}
@@ -38,17 +39,21 @@ behindSlot conf w l m bytes =
 
 -- ---- rows
 
+-- A row, if it is due in this slot.
+unfoldable pub dueRow : ℕ → Row → List ℕ
+dueRow slot r = either (isDue (r .slot) slot) (cells r) []
+
 -- The row of a slot, if one is due. It shows the slot at which it was due, and the positions ticked.
 unfoldable pub slotRow : RoundConf → Network → List ℕ
-slotRow conf w =
-    either (isDue (w .«next_row») (w .slot)) (cells (rowOf (w .«next_row») (conf .graph .n) (tickedAll (conf .graph .n) (w .nodes)))) []
+slotRow conf w = dueRow (w .slot) (rowOf (w .«next_row») (conf .graph .n) (tickedAll (conf .graph .n) (w .nodes)))
 
--- .. put behind the first `at` numbers of a buffer, if it has place for it
-unfoldable pub writtenAt : List ℕ → ℕ → RoundConf → Network → List ℕ
-writtenAt rows at conf w = either (leb (at + length (slotRow conf w)) (length rows)) (sets rows at (slotRow conf w)) rows
+-- A row put behind the first `at` numbers of a buffer, if it has place for it.
+unfoldable pub writtenAt : List ℕ → ℕ → List ℕ → List ℕ
+writtenAt rows at row = either (leb (at + length row) (length rows)) (sets rows at row) rows
 
-unfoldable pub writtenEnd : ℕ → ℕ → RoundConf → Network → ℕ
-writtenEnd numbers at conf w = either (leb (at + length (slotRow conf w)) numbers) (at + length (slotRow conf w)) at
+-- .. and how many numbers are used then
+unfoldable pub writtenEnd : ℕ → ℕ → List ℕ → ℕ
+writtenEnd numbers at row = either (leb (at + length row) numbers) (at + length row) at
 
 -- ---- refusals of a round
 
@@ -60,6 +65,6 @@ longRefusal conf slot = either (ltb lastSlot (slot + conf .length)) tooLong 0
 unfoldable pub lateOf : ℕ → ℕ → Bool → ℕ → ℕ
 lateOf numbers used short due = either short wordsShort (either (rowsRefused numbers used due) rowsShort 0)
 
--- the lower of two refusals, where the second is told only if there is no first
+-- the first of two refusals, and the second only if there is no first
 abbrev pub orElse : ℕ → ℕ → ℕ
 orElse first second = either (eqb first 0) second first

@@ -2,11 +2,12 @@
 ghost use mathlib.Core.Path.{_≡_};
 ghost use lib.ListN.{length};
 ghost use Rattle.loops.specs.Pick.{either};
-ghost use Rattle.engines.specs.Network.{newNetwork, ticking, longRefusal, lateOf, writtenAt, writtenEnd};
+ghost use Rattle.engines.specs.Network.{newNetwork, ticking, longRefusal, lateOf, dueRow, slotRow, writtenAt, writtenEnd};
 use super::metrics::MetricsCollector;
 use super::node;
 use super::node::Node;
 use super::rows;
+use super::rows::Row;
 use super::settings::Settings;
 use graph::network::NetworkGraph;
 use limits::refusals;
@@ -59,7 +60,8 @@ pub fn tick(conf: RoundConf, w: Network) -> Network
 
 // ---- refusals of a round
 
-// The refusal that is known before a round runs: its full length would pass the last slot. A difference stands for the sum, which could wrap.
+// The refusal that is known before a round runs: its full length would pass the last slot. A difference stands for
+// the sum, which could wrap.
 pub fn long_refusal(conf: RoundConf, slot: u64) -> u64
     ensures { λ r. ⌜ r ≡ longRefusal conf slot ⌝ }
 {
@@ -87,13 +89,12 @@ pub fn late_refusal(short: bool, due: u64, numbers: usize, used: usize) -> u64
 
 // ---- rows
 
-// The row of the slot that begins, if one is due and there is place for it behind the first `at` numbers; how many numbers are used then. A row shows the
-// positions ticked.
-pub fn write_row(rows: &mut [u64], at: usize, conf: RoundConf, w: Network) -> usize
-    ensures { λ r. ⌜ r ≡ writtenEnd (length (now (rows .entry))) at conf w ⌝ }
-    ensures { λ _. ⌜ now (rows .exit) ≡ writtenAt (now (rows .entry)) at conf w ⌝ }
+// A row, if it is due and there is place for it behind the first `at` numbers; how many numbers are used then.
+pub fn put_due(rows: &mut [u64], at: usize, slot: u64, r: Row) -> usize
+    ensures { λ n. ⌜ n ≡ writtenEnd (length (now (rows .entry))) at (dueRow slot r) ⌝ }
+    ensures { λ _. ⌜ now (rows .exit) ≡ writtenAt (now (rows .entry)) at (dueRow slot r) ⌝ }
 {
-    if !rows::row_due(w.next_row, w.slot) {
+    if !rows::row_due(r.slot, slot) {
         return at;
     }
     if rows.len() < at {
@@ -102,9 +103,21 @@ pub fn write_row(rows: &mut [u64], at: usize, conf: RoundConf, w: Network) -> us
     if rows.len() - at < limits::ROW {
         return at;
     }
+    rows::put_row(&mut rows[at..], r);
+    at + limits::ROW
+}
+
+// The row of the slot that begins, if one is due and there is place for it behind the first `at` numbers; how many
+// numbers are used then. A row shows the positions ticked.
+pub fn write_row(rows: &mut [u64], at: usize, conf: RoundConf, w: Network) -> usize
+    ensures { λ r. ⌜ r ≡ writtenEnd (length (now (rows .entry))) at (slotRow conf w) ⌝ }
+    ensures { λ _. ⌜ now (rows .exit) ≡ writtenAt (now (rows .entry)) at (slotRow conf w) ⌝ }
+{
+    if !rows::row_due(w.next_row, w.slot) {
+        return at;
+    }
     let nodes = w.nodes;
     let shown = node::tick_all(nodes, conf.graph.n);
     let r = rows::take_snapshot(w.next_row, shown, conf.graph.n);
-    rows::put_row(&mut rows[at..], r);
-    at + limits::ROW
+    put_due(rows, at, w.slot, r)
 }

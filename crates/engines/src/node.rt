@@ -14,11 +14,12 @@ pub enum NodeState {
     Sleep,
 }
 
+// The small fields stand together, so that a position takes 48 bytes.
 pub struct Node {
     pub state: NodeState,
+    pub goal_reached: bool,
     pub flood_remaining: u32,
     pub last_progress_slot: u64,
-    pub goal_reached: bool,
     pub progress_count: u64,
     pub slots_listen: u64,
     pub slots_flood: u64,

@@ -23,7 +23,7 @@ fn larger(a: u64, b: u64) -> u64
 }
 
 // The highest progress of the first n positions.
-fn highest_progress(at: [Node; 64], n: usize) -> u64
+pub fn highest_progress(at: [Node; 64], n: usize) -> u64
     ensures { λ r. ⌜ r ≡ highestProgress n at ⌝ }
 {
     let count = clamp::at_most_64(n);

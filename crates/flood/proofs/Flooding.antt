@@ -9,7 +9,7 @@ use native.Mathlib.Omega.{arith}
 use Rattle.loops.specs.Pick.{either}
 use Rattle.engines.specs.Clamp.{atMost64}
 use Rattle.loops.specs.Runs.{tell}
-use Rattle.engines.specs.Network.{slotRow}
+use Rattle.engines.specs.Network.{dueRow, slotRow}
 use Rattle.engines.specs.Nodes.{tickedAll}
 use Rattle.engines.specs.Rows.{isDue, rowOf, cells}
 use Rattle.engines.specs.declared.rows.Row.{Row}
@@ -73,7 +73,7 @@ module _ (ws : List ℕ) (conf : RoundConf) (bytes : ℕ) (f : FloodRun) {t : Fl
 -- a row has five numbers
 module _ (conf : RoundConf) where
   row-five : (w : Network) → length (slotRow conf w) / 5 * 5 ≡ length (slotRow conf w)
-  unfolding slotRow
+  unfolding slotRow dueRow rowOf
   row-five w = by (isDue (w .«next_row») (w .slot)) (rowOf (w .«next_row») (conf .graph .n) (tickedAll (conf .graph .n) (w .nodes)))
     where
       by : (b : Bool) (r : Row) → length (either b (cells r) []) / 5 * 5 ≡ length (either b (cells r) [])

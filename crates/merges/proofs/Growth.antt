@@ -9,6 +9,7 @@ use borrow.Author.Tests.{ltb-true, ltb-false}
 use Rattle.marks.specs.Marks.{has}
 use Rattle.loops.specs.Wrap.{add64}
 use Rattle.merges.specs.Merging.{
+  Draft,
   Noes,
   unanimousOf,
   rankOf,
@@ -42,7 +43,6 @@ use Rattle.merges.specs.declared.merging.Held.{Held}
 use Rattle.merges.specs.declared.merging.Held.the-variants.{Empty, Unreadable, Packet}
 use Rattle.merges.specs.declared.merging.Payload.{Payload}
 use Rattle.merges.specs.declared.merging.Merged.{Merged}
-use Rattle.merges.specs.declared.merging.Draft.{Draft}
 use Rattle.merges.proofs.Safety.{either-cases}
 
 -- the same term, no lower phase

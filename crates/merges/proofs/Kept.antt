@@ -6,6 +6,7 @@ use Prim.Native.Nat.{ℕ}
 use lib.Dec.{ltb}
 use Rattle.marks.specs.Marks.{has}
 use Rattle.merges.specs.Merging.{
+  Draft,
   Noes,
   unanimousOf,
   ensureOf,
@@ -29,7 +30,6 @@ use Rattle.merges.specs.declared.merging.Held.{Held}
 use Rattle.merges.specs.declared.merging.Held.the-variants.{Empty, Unreadable, Packet}
 use Rattle.merges.specs.declared.merging.Payload.{Payload}
 use Rattle.merges.specs.declared.merging.Merged.{Merged}
-use Rattle.merges.specs.declared.merging.Draft.{Draft}
 use Rattle.merges.proofs.Safety.{either-cases}
 
 module _

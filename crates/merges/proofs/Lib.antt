@@ -1,5 +1,7 @@
 pub mod Halves
 pub mod Bitmaps
+pub mod Slips
+pub mod Sources
 pub mod Safety
 pub mod Growth
 pub mod Late

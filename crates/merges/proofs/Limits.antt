@@ -18,14 +18,13 @@ use Rattle.texts.specs.ListLaws.{Every, none, more}
 use Rattle.texts.specs.Put.{written}
 use Rattle.packets.specs.Packets.{ValidBitmap, ValidData, ValidCe, proposalText, proposalData}
 use Rattle.loops.specs.Wrap.{add64}
-use Rattle.merges.specs.Merging.{Noes, entry, filledOf, markedOf, onlyOf, joinOf, rankOf, withState, ensureOf, decidedOf, acknowledgedOf, raisedOf, mergeOf, blank, proposalOf}
+use Rattle.merges.specs.Merging.{Draft, Noes, entry, filledOf, markedOf, onlyOf, joinOf, rankOf, withState, ensureOf, decidedOf, acknowledgedOf, raisedOf, mergeOf, blank, proposalOf}
 use Rattle.merges.specs.Sound.{MergesValid, ProposesValid}
 use Rattle.packets.specs.declared.TwoPcPhase.{TwoPcPhase}
 use Rattle.packets.specs.declared.Bitmap.{Bitmap}
 use Rattle.packets.specs.declared.Data.{Data}
 use Rattle.packets.specs.declared.CeTwoPcPacket.{CeTwoPcPacket}
 use Rattle.merges.specs.declared.merging.Payload.{Payload}
-use Rattle.merges.specs.declared.merging.Draft.{Draft}
 use Rattle.merges.proofs.Bitmaps.{and-false}
 use Rattle.merges.proofs.Kept.{merge-keeps, adopted-keeps}
 use Rattle.merges.proofs.Safety.{either-cases}

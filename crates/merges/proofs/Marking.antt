@@ -10,6 +10,7 @@ use borrow.Author.Tests.{lt-ltb, eq-eqb, ltb-true}
 use Rattle.marks.specs.Marks.{has, marks}
 use Rattle.marks.specs.Sets.{true-and}
 use Rattle.merges.specs.Merging.{
+  Draft,
   Noes,
   entry,
   filledOf,
@@ -50,7 +51,6 @@ use Rattle.merges.specs.declared.merging.Held.{Held}
 use Rattle.merges.specs.declared.merging.Held.the-variants.{Empty, Unreadable, Packet}
 use Rattle.merges.specs.declared.merging.Payload.{Payload}
 use Rattle.merges.specs.declared.merging.Merged.{Merged}
-use Rattle.merges.specs.declared.merging.Draft.{Draft}
 use Rattle.merges.proofs.Bitmaps.{has-word}
 use Rattle.merges.proofs.Growth.{told-apart}
 use Rattle.merges.proofs.Kept.{merge-keeps}

@@ -13,6 +13,7 @@ use Rattle.marks.specs.Laws.{has-none}
 use Rattle.marks.specs.Sets.{has-marks, and-true, true-and, all-at}
 use Rattle.loops.specs.Wrap.{add64}
 use Rattle.merges.specs.Merging.{
+  Draft,
   Noes,
   entry,
   filledOf,
@@ -51,7 +52,6 @@ use Rattle.merges.specs.declared.merging.Held.{Held}
 use Rattle.merges.specs.declared.merging.Held.the-variants.{Empty, Unreadable, Packet}
 use Rattle.merges.specs.declared.merging.Payload.{Payload}
 use Rattle.merges.specs.declared.merging.Merged.{Merged}
-use Rattle.merges.specs.declared.merging.Draft.{Draft}
 
 -- a choice has what both of its ends have, each with what the test says
 pub either-cases : {A : Type 0} (P : A → Type 0) (b : Bool) {x y : A} → (b ≡ true → P x) → (b ≡ false → P y) → P (either b x y)

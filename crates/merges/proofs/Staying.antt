@@ -10,6 +10,7 @@ use borrow.Author.Tests.{lt-ltb, ltb-true}
 use Rattle.marks.specs.Marks.{has, marks}
 use Rattle.marks.specs.Sets.{and-true, true-and}
 use Rattle.merges.specs.Merging.{
+  Draft,
   Noes,
   entry,
   filledOf,
@@ -40,7 +41,6 @@ use Rattle.merges.specs.declared.merging.Held.{Held}
 use Rattle.merges.specs.declared.merging.Held.the-variants.{Empty, Unreadable, Packet}
 use Rattle.merges.specs.declared.merging.Payload.{Payload}
 use Rattle.merges.specs.declared.merging.Merged.{Merged}
-use Rattle.merges.specs.declared.merging.Draft.{Draft}
 use Rattle.merges.proofs.Bitmaps.{has-word}
 use Rattle.merges.proofs.Safety.{either-cases}
 use Rattle.merges.proofs.Growth.{Rose, rose-trans, voiced-rose, settled-rose, ensure-rose, adopted-rose, raised-rose, own-rose}

@@ -1,5 +1,6 @@
 pub mod Votes
 pub mod Merging
+pub mod Slips
 pub mod Sound
 pub mod Late
 pub mod MergeCases

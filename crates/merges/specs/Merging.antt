@@ -26,7 +26,6 @@ use Rattle.merges.specs.declared.merging.Held.{Held}
 use Rattle.merges.specs.declared.merging.Held.the-variants.{Empty, Unreadable, Packet}
 use Rattle.merges.specs.declared.merging.Payload.{Payload}
 use Rattle.merges.specs.declared.merging.Merged.{Merged}
-use Rattle.merges.specs.declared.merging.Draft.{Draft}
 
 -- who votes no: `nay t i` is true where position i does in term t. Every rule here holds for any such votes; those of a room are `noOf` its settings
 abbrev pub Noes : Type 0
@@ -88,7 +87,10 @@ voicedOf nay n v p Prepare = either (nay (p .term) v) (decidedOf Aborted n v p) 
 voicedOf nay n v p Committed = acknowledgedOf v p
 voicedOf nay n v p Aborted = acknowledgedOf v p
 
--- A draft is a packet on its way through a merge, and whether anything in it is new.
+-- a packet on its way through a merge, and whether anything in it is new
+pub record Draft : Type 0 where
+  pub packet : CeTwoPcPacket
+  pub news : Bool
 
 -- once every vote is in, the packet is Committed
 unfoldable pub settledOf : ℕ → ℕ → Draft → TwoPcPhase → Draft

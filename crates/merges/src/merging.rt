@@ -1,5 +1,5 @@
 // Proposing and merging the capture rooms' packets, and the tests of what positions hold: the protocol half of two_pc_ce.rs,
-// on packets by value.
+// on packets by value. A merge is computed on slips, so that it does not carry the data's 32 bytes through every step.
 use crate::votes;
 use crate::votes::Voting;
 use graph::sets;
@@ -10,12 +10,15 @@ use packets::TwoPcPhase;
 use packets::two_pc_ce;
 ghost use mathlib.Core.Path.{_≡_};
 ghost use mathlib.Core.Bool.{_&&_, _||_};
-ghost use Prim.Native.Nat.{max};
+ghost use Prim.Native.Nat.{ℕ, max};
 ghost use lib.Dec.{ltb};
 ghost use Rattle.marks.specs.Marks.{has, marks};
 ghost use Rattle.merges.specs.Votes.{noOf};
-ghost use Rattle.merges.specs.Merging.{entry, filledOf, markedOf, onlyOf, joinOf, joinNews, unanimousOf, rankOf, withState, ensureOf, decidedOf, acknowledgedOf, voicedOf, settled, adoptedOf, raisedOf, ownOf, sameTermOf, redundant, newInfo, concluded, outdated, heardOf, mergeOf, blank, proposalOf, standingOf, goalOf, canSleepOf, allHold, networkGoalOf, outcomeOf};
+ghost use Rattle.merges.specs.Merging.{entry, filledOf, markedOf, onlyOf, joinOf, joinNews, unanimousOf, rankOf, withState, ensureOf, decidedOf, acknowledgedOf, voicedOf, settled, adoptedOf, raisedOf, ownOf, sameTermOf, redundant, newInfo, outdated, heardOf, mergeOf, blank, proposalOf, standingOf, goalOf, canSleepOf, allHold, outcomeOf};
+ghost use Rattle.merges.specs.Slips.{packetOf, draftOf, whose, HeardBy};
+ghost use Rattle.merges.specs.declared.merging.Held.the-variants.{Packet};
 ghost use Rattle.packets.specs.Packets.{proposalData};
+ghost use Rattle.packets.specs.declared.Data.{Data};
 ghost use Rattle.packets.specs.declared.TwoPcPhase.the-variants.{Committed, Aborted};
 
 pub enum MergeResult {
@@ -46,9 +49,17 @@ pub struct Merged {
     pub payload: Payload,
 }
 
-// A packet on its way through a merge, and whether anything in it is new.
+// A packet without its data, which a merge never looks at: `source` says whose data it has.
+pub struct Slip {
+    pub term: u64,
+    pub phase: TwoPcPhase,
+    pub source: u64,
+    pub flags_bitmap: Bitmap,
+}
+
+// A slip on its way through a merge, and whether anything in it is new.
 pub struct Draft {
-    pub packet: CeTwoPcPacket,
+    pub slip: Slip,
     pub news: bool,
 }
 
@@ -142,100 +153,99 @@ fn rank(phase: TwoPcPhase) -> u64
     }
 }
 
-fn with_state(p: CeTwoPcPacket, phase: TwoPcPhase, flags_bitmap: Bitmap) -> CeTwoPcPacket
-    ensures { λ r. ⌜ r ≡ withState phase «flags_bitmap» p ⌝ }
+fn with_state(s: Slip, phase: TwoPcPhase, flags_bitmap: Bitmap) -> Slip
+    ensures { λ r. ⌜ ((d : ℕ → Data) → packetOf d r ≡ withState phase «flags_bitmap» (packetOf d s)) ⌝ }
 {
-    let proposal_data = p.proposal_data;
-    CeTwoPcPacket {
-        term: p.term,
+    Slip {
+        term: s.term,
         phase,
-        proposal_data,
+        source: s.source,
         flags_bitmap,
     }
 }
 
-pub fn ensure_bitmap_len(n: usize, p: CeTwoPcPacket) -> CeTwoPcPacket
-    ensures { λ r. ⌜ r ≡ ensureOf n p ⌝ }
+fn ensure_bitmap_len(n: usize, s: Slip) -> Slip
+    ensures { λ r. ⌜ ((d : ℕ → Data) → packetOf d r ≡ ensureOf n (packetOf d s)) ⌝ }
 {
-    let phase = p.phase;
-    let b = p.flags_bitmap;
-    with_state(p, phase, filled(n, b))
+    let phase = s.phase;
+    let b = s.flags_bitmap;
+    with_state(s, phase, filled(n, b))
 }
 
 // Whoever decides starts a new bitmap, whose marks say who knows the decision.
-pub fn escalate_to_commit(n: usize, p: CeTwoPcPacket, node_id: usize) -> CeTwoPcPacket
-    ensures { λ r. ⌜ r ≡ decidedOf Committed n «node_id» p ⌝ }
+fn escalate_to_commit(n: usize, s: Slip, node_id: usize) -> Slip
+    ensures { λ r. ⌜ ((d : ℕ → Data) → packetOf d r ≡ decidedOf Committed n «node_id» (packetOf d s)) ⌝ }
 {
-    with_state(p, TwoPcPhase::Committed, own_mark_only(n, node_id))
+    with_state(s, TwoPcPhase::Committed, own_mark_only(n, node_id))
 }
 
-pub fn escalate_to_abort(n: usize, p: CeTwoPcPacket, node_id: usize) -> CeTwoPcPacket
-    ensures { λ r. ⌜ r ≡ decidedOf Aborted n «node_id» p ⌝ }
+fn escalate_to_abort(n: usize, s: Slip, node_id: usize) -> Slip
+    ensures { λ r. ⌜ ((d : ℕ → Data) → packetOf d r ≡ decidedOf Aborted n «node_id» (packetOf d s)) ⌝ }
 {
-    with_state(p, TwoPcPhase::Aborted, own_mark_only(n, node_id))
+    with_state(s, TwoPcPhase::Aborted, own_mark_only(n, node_id))
 }
 
 // The own mark, where the bitmap has an entry for it.
-fn acknowledge(p: CeTwoPcPacket, node_id: usize) -> CeTwoPcPacket
-    ensures { λ r. ⌜ r ≡ acknowledgedOf «node_id» p ⌝ }
+fn acknowledge(s: Slip, node_id: usize) -> Slip
+    ensures { λ r. ⌜ ((d : ℕ → Data) → packetOf d r ≡ acknowledgedOf «node_id» (packetOf d s)) ⌝ }
 {
-    let phase = p.phase;
-    let b = p.flags_bitmap;
-    with_state(p, phase, marked(b, node_id))
+    let phase = s.phase;
+    let b = s.flags_bitmap;
+    with_state(s, phase, marked(b, node_id))
 }
 
 // The own entry: in Prepare the vote, later that the decision is known here.
-fn voice(voting: Voting, p: CeTwoPcPacket, node_id: usize) -> CeTwoPcPacket
-    ensures { λ r. ⌜ r ≡ voicedOf (noOf voting) (voting .n) «node_id» p (p .phase) ⌝ }
+fn voice(voting: Voting, s: Slip, node_id: usize) -> Slip
+    ensures { λ r. ⌜ ((d : ℕ → Data) → packetOf d r ≡ voicedOf (noOf voting) (voting .n) «node_id» (packetOf d s) (s .phase)) ⌝ }
 {
-    let k = p.phase;
+    let k = s.phase;
     match k {
         TwoPcPhase::Prepare => {
-            if votes::should_abort_app(voting, p.term, node_id) {
-                return escalate_to_abort(voting.n, p, node_id);
+            if votes::should_abort_app(voting, s.term, node_id) {
+                return escalate_to_abort(voting.n, s, node_id);
             }
-            acknowledge(p, node_id)
+            acknowledge(s, node_id)
         }
-        TwoPcPhase::Committed => acknowledge(p, node_id),
-        TwoPcPhase::Aborted => acknowledge(p, node_id),
+        TwoPcPhase::Committed => acknowledge(s, node_id),
+        TwoPcPhase::Aborted => acknowledge(s, node_id),
     }
 }
 
 // Votes that are complete commit, also where this merge brought none of them.
-fn settle(n: usize, d: Draft, node_id: usize) -> Draft
-    ensures { λ r. ⌜ r ≡ settled n «node_id» d ⌝ }
+fn settle(n: usize, x: Draft, node_id: usize) -> Draft
+    ensures { λ r. ⌜ ((d : ℕ → Data) → draftOf d r ≡ settled n «node_id» (draftOf d x)) ⌝ }
 {
-    let p = d.packet;
-    let k = p.phase;
-    let b = p.flags_bitmap;
+    let s = x.slip;
+    let k = s.phase;
+    let b = s.flags_bitmap;
     match k {
         TwoPcPhase::Prepare => {
             if has_unanimity(n, b) {
-                let packet = escalate_to_commit(n, p, node_id);
-                return Draft { packet, news: true };
+                let slip = escalate_to_commit(n, s, node_id);
+                return Draft { slip, news: true };
             }
-            d
+            x
         }
-        TwoPcPhase::Committed => d,
-        TwoPcPhase::Aborted => d,
+        TwoPcPhase::Committed => x,
+        TwoPcPhase::Aborted => x,
     }
 }
 
 // Whoever adopts a packet votes on it, even where its own entry is marked already.
-pub fn adopt_with_local_vote(voting: Voting, p: CeTwoPcPacket, node_id: usize) -> CeTwoPcPacket
-    ensures { λ r. ⌜ r ≡ adoptedOf (noOf voting) (voting .n) «node_id» p ⌝ }
+fn adopt_with_local_vote(voting: Voting, s: Slip, node_id: usize) -> Slip
+    ensures { λ r. ⌜ ((d : ℕ → Data) → packetOf d r ≡ adoptedOf (noOf voting) (voting .n) «node_id» (packetOf d s)) ⌝ }
 {
-    let filled = ensure_bitmap_len(voting.n, p);
-    let packet = voice(voting, filled, node_id);
-    let d = Draft { packet, news: true };
-    let e = settle(voting.n, d, node_id);
-    let q = e.packet;
+    let filled = ensure_bitmap_len(voting.n, s);
+    let slip = voice(voting, filled, node_id);
+    let x = Draft { slip, news: true };
+    let y = settle(voting.n, x, node_id);
+    let q = y.slip;
     q
 }
 
 // The phase that outranks the other stays, with its bitmap. The data never moves.
-fn raise(n: usize, l: CeTwoPcPacket, r: CeTwoPcPacket) -> Draft
-    ensures { λ d. ⌜ d ≡ raisedOf n l r ⌝ }
+fn raise(n: usize, l: Slip, r: Slip) -> Draft
+    ensures { λ x. ⌜ ((d : ℕ → Data) → draftOf d x ≡ raisedOf n (packetOf d l) (packetOf d r)) ⌝ }
 {
     let ours = l.phase;
     let theirs = r.phase;
@@ -244,45 +254,94 @@ fn raise(n: usize, l: CeTwoPcPacket, r: CeTwoPcPacket) -> Draft
     let held = rank(ours);
     let heard = rank(theirs);
     if held < heard {
-        let packet = with_state(l, theirs, b);
-        return Draft { packet, news: true };
+        let slip = with_state(l, theirs, b);
+        return Draft { slip, news: true };
     }
     if held == heard {
-        let packet = with_state(l, ours, joined(n, a, b));
+        let slip = with_state(l, ours, joined(n, a, b));
         let news = join_is_news(n, a, b);
-        return Draft { packet, news };
+        return Draft { slip, news };
     }
     Draft {
-        packet: l,
+        slip: l,
         news: false,
     }
 }
 
 // Where the own entry is there and unmarked, this position has yet to speak.
-fn own(voting: Voting, d: Draft, node_id: usize) -> Draft
-    ensures { λ r. ⌜ r ≡ ownOf (noOf voting) (voting .n) «node_id» d ⌝ }
+fn own(voting: Voting, x: Draft, node_id: usize) -> Draft
+    ensures { λ r. ⌜ ((d : ℕ → Data) → draftOf d r ≡ ownOf (noOf voting) (voting .n) «node_id» (draftOf d x)) ⌝ }
 {
-    let p = d.packet;
-    let b = p.flags_bitmap;
+    let s = x.slip;
+    let b = s.flags_bitmap;
     if node_id >= b.len {
-        return d;
+        return x;
     }
     if sets::is_marked(b.marks, node_id) {
-        return d;
+        return x;
     }
-    let packet = voice(voting, p, node_id);
-    Draft { packet, news: true }
+    let slip = voice(voting, s, node_id);
+    Draft { slip, news: true }
 }
 
 // Both bitmaps are filled before either is used.
-fn merge_same_term(voting: Voting, l: CeTwoPcPacket, r: CeTwoPcPacket, node_id: usize) -> Draft
-    ensures { λ d. ⌜ d ≡ sameTermOf (noOf voting) (voting .n) «node_id» l r ⌝ }
+fn merge_same_term(voting: Voting, l: Slip, r: Slip, node_id: usize) -> Draft
+    ensures { λ x. ⌜ ((d : ℕ → Data) → draftOf d x ≡ sameTermOf (noOf voting) (voting .n) «node_id» (packetOf d l) (packetOf d r)) ⌝ }
 {
     let ours = ensure_bitmap_len(voting.n, l);
     let theirs = ensure_bitmap_len(voting.n, r);
-    let d = raise(voting.n, ours, theirs);
-    let e = own(voting, d, node_id);
-    settle(voting.n, e, node_id)
+    let x = raise(voting.n, ours, theirs);
+    let y = own(voting, x, node_id);
+    settle(voting.n, y, node_id)
+}
+
+// What is left of an earlier proposal must not count for this one.
+fn is_outdated(term: u64, held: u64) -> bool
+    ensures { λ r. ⌜ r ≡ outdated term held ⌝ }
+{
+    term < held
+}
+
+// Two packets meet: the higher term is adopted, the lower left.
+fn hear_packet(voting: Voting, local: Slip, received: Slip, node_id: usize) -> Draft
+    ensures { λ r. ⌜ HeardBy (noOf voting) (voting .n) «node_id» Packet local received r ⌝ }
+{
+    if local.term < received.term {
+        let slip = adopt_with_local_vote(voting, received, node_id);
+        return Draft { slip, news: true };
+    }
+    if is_outdated(received.term, local.term) {
+        return Draft {
+            slip: local,
+            news: false,
+        };
+    }
+    let x = merge_same_term(voting, local, received, node_id);
+    if x.news {
+        return x;
+    }
+    Draft {
+        slip: local,
+        news: false,
+    }
+}
+
+// What position node_id makes of a packet, by what it holds: an empty one takes it. What is no news leaves the local as
+// it came, a short bitmap too.
+pub fn hear(voting: Voting, held: Held, local: Slip, received: Slip, node_id: usize) -> Draft
+    ensures { λ r. ⌜ HeardBy (noOf voting) (voting .n) «node_id» held local received r ⌝ }
+{
+    match held {
+        Held::Empty => {
+            let slip = adopt_with_local_vote(voting, received, node_id);
+            Draft { slip, news: true }
+        }
+        Held::Unreadable => Draft {
+            slip: local,
+            news: false,
+        },
+        Held::Packet => hear_packet(voting, local, received, node_id),
+    }
 }
 
 // The local payload goes back as it came, a short bitmap too.
@@ -308,43 +367,59 @@ fn new_info(packet: CeTwoPcPacket) -> Merged
     }
 }
 
-fn conclude(local: Payload, d: Draft) -> Merged
-    ensures { λ r. ⌜ r ≡ concluded local d ⌝ }
+// A packet leaves its data behind, under the number `source`.
+fn without_data(p: CeTwoPcPacket, source: u64) -> Slip
+    ensures { λ r. ⌜ ((d : ℕ → Data) → d source ≡ p .«proposal_data» → packetOf d r ≡ p) ⌝ }
 {
-    if d.news {
-        let packet = d.packet;
-        return new_info(packet);
+    let phase = p.phase;
+    let flags_bitmap = p.flags_bitmap;
+    Slip {
+        term: p.term,
+        phase,
+        source,
+        flags_bitmap,
     }
-    redundant_merge(local)
 }
 
-// What is left of an earlier proposal must not count for this one.
-fn is_outdated(term: u64, held: u64) -> bool
-    ensures { λ r. ⌜ r ≡ outdated term held ⌝ }
+fn with_data(s: Slip, proposal_data: Data) -> CeTwoPcPacket
+    ensures { λ r. ⌜ r ≡ packetOf (λ _. «proposal_data») s ⌝ }
 {
-    term < held
+    let phase = s.phase;
+    let flags_bitmap = s.flags_bitmap;
+    CeTwoPcPacket {
+        term: s.term,
+        phase,
+        proposal_data,
+        flags_bitmap,
+    }
 }
 
-// A packet was received. An empty local takes it, and so does one of a lower term.
-fn hear(voting: Voting, local: Payload, p: CeTwoPcPacket, node_id: usize) -> Merged
+fn data_of(source: u64, ours: Data, theirs: Data) -> Data
+    ensures { λ r. ⌜ r ≡ whose ours theirs source ⌝ }
+{
+    if source == 0 { ours } else { theirs }
+}
+
+// A packet was received. The data stays out of the merge: the local's is number 0, the received one number 1.
+fn merge_packet(voting: Voting, local: Payload, p: CeTwoPcPacket, node_id: usize) -> Merged
     ensures { λ r. ⌜ r ≡ heardOf (noOf voting) (voting .n) «node_id» local p (local .held) ⌝ }
 {
-    let k = local.held;
+    let held = local.held;
     let l = local.packet;
-    match k {
-        Held::Empty => new_info(adopt_with_local_vote(voting, p, node_id)),
-        Held::Unreadable => redundant_merge(local),
-        Held::Packet => {
-            if l.term < p.term {
-                return new_info(adopt_with_local_vote(voting, p, node_id));
-            }
-            if is_outdated(p.term, l.term) {
-                return redundant_merge(local);
-            }
-            let d = merge_same_term(voting, l, p, node_id);
-            conclude(local, d)
-        }
+    let x = hear(
+        voting,
+        held,
+        without_data(l, 0),
+        without_data(p, 1),
+        node_id,
+    );
+    if !x.news {
+        return redundant_merge(local);
     }
+    let s = x.slip;
+    let ours = l.proposal_data;
+    let theirs = p.proposal_data;
+    new_info(with_data(s, data_of(s.source, ours, theirs)))
 }
 
 // What position node_id holds after a received payload, and whether that was news.
@@ -356,19 +431,19 @@ pub fn merge(voting: Voting, local: Payload, received: Payload, node_id: usize) 
     match k {
         Held::Empty => redundant_merge(local),
         Held::Unreadable => redundant_merge(local),
-        Held::Packet => hear(voting, local, p, node_id),
+        Held::Packet => merge_packet(voting, local, p, node_id),
     }
 }
 
-fn blank_packet(n: usize, term: u64) -> CeTwoPcPacket
-    ensures { λ r. ⌜ r ≡ blank n term ⌝ }
+// A proposal that nobody has voted on; its data is number 0.
+fn blank_slip(n: usize, term: u64) -> Slip
+    ensures { λ r. ⌜ ((d : ℕ → Data) → d 0 ≡ proposalData term → packetOf d r ≡ blank n term) ⌝ }
 {
-    let proposal_data = two_pc_ce::proposal_data(term);
     let flags_bitmap = Bitmap { len: n, marks: 0 };
-    CeTwoPcPacket {
+    Slip {
         term,
         phase: TwoPcPhase::Prepare,
-        proposal_data,
+        source: 0,
         flags_bitmap,
     }
 }
@@ -379,7 +454,8 @@ pub fn init_proposal(voting: Voting, term: u64, initiator: usize) -> CeTwoPcPack
     ensures { λ r. ⌜ r ≡ proposalOf (noOf voting) (voting .n) initiator term ⌝ }
 {
     let next = std::num::wrapping_add_u64(term, 1);
-    adopt_with_local_vote(voting, blank_packet(voting.n, next), initiator)
+    let s = adopt_with_local_vote(voting, blank_slip(voting.n, next), initiator);
+    with_data(s, two_pc_ce::proposal_data(next))
 }
 
 // 0 for no packet, then Prepare, Committed, Aborted.
@@ -438,16 +514,6 @@ fn all_stand(payloads: [Payload; 64], n: usize, k: u64) -> bool
         i += 1;
     }
     true
-}
-
-// Everybody has the same decision.
-pub fn network_goal_reached(payloads: [Payload; 64], n: usize) -> bool
-    ensures { λ r. ⌜ r ≡ networkGoalOf n payloads ⌝ }
-{
-    if all_stand(payloads, n, 2) {
-        return true;
-    }
-    all_stand(payloads, n, 3)
 }
 
 // What is not committed everywhere by the deadline is aborted.

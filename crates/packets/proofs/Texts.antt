@@ -10,10 +10,14 @@ use lib.Dec.{eqb}
 use lib.ListN.{length, take, drop, getD, length-append, drop-of-length-le}
 use lib.Seq.{drop-cons, length-take-le, getD-take}
 use borrow.Author.Tests.{eqb-true, eqb-false}
-use Rattle.marks.specs.Marks.{marksOf}
+use mir.Val.{boolByte}
+use Rattle.loops.specs.Pick.{either}
+use Rattle.marks.specs.Marks.{has, countOf, marksOf}
+use Rattle.marks.specs.Laws.{has-half, has-low}
 use Rattle.texts.specs.Decimal.{decimal}
 use Rattle.texts.specs.Readers.{boolText, itemsText, listText}
 use Rattle.packets.specs.Packets.{bitmapText}
+use Rattle.packets.specs.Writing.{bitmapLen}
 use Rattle.packets.specs.declared.Bitmap.{Bitmap}
 
 -- ---- the entries of a bitmap
@@ -64,23 +68,31 @@ list-more d n h k = go (take n d) (drop-cons (take n d) 0 0 (omega (arith, lengt
     go (x ∷ r) e f = rw f
 
 -- ---- how long they are
-pub marks-len-none : (m n : ℕ) → n ≤ 0 → length (itemsText boolText (marksOf m n)) ≡ 1
-marks-len-none m n h = ap length (marks-none m n h)
+-- one more entry stands behind the others
+marks-last : (n m : ℕ) → marksOf m (suc n) ≡ marksOf m n ++ (has m n ∷ [])
+unfolding marksOf
+marks-last zero m = ap (λ (b : Bool). b ∷ []) (sym (has-low m))
+marks-last (suc n) m = rw (marks-last n (m / 2), has-half m n)
 
-bit-len : (m : ℕ) → length (boolText (eqb (m % 2) 1)) + m % 2 ≡ 5
-bit-len m = go (eqb (m % 2) 1) refl
-  where
-    go : (b : Bool) → eqb (m % 2) 1 ≡ b → length (boolText b) + m % 2 ≡ 5
-    go true e = omega (arith, eqb-true (m % 2) 1 e)
-    go false e = omega (arith, eqb-false (m % 2) 1 e)
+items-last : (bs : List Bool) (b : Bool)
+    → length (itemsText boolText (bs ++ (b ∷ []))) ≡ length (itemsText boolText bs) + 1 + length (boolText b)
+unfolding itemsText
+items-last [] b = omega (arith, length-append (boolText b) (93 ∷ []))
+items-last (x ∷ r) b = simp length-append (omega (arith, items-last r b))
 
-pub marks-len-more : (m n : ℕ) → 0 < n → length (itemsText boolText (marksOf m n)) + m % 2 ≡ length (itemsText boolText (marksOf (m / 2) (n - 1))) + 6
-marks-len-more m n h =
-    omega (arith, ap length (marks-more m n h), bit-len m, length-append (boolText (eqb (m % 2) 1)) (itemsText boolText (marksOf (m / 2) (n - 1))))
+entry-len : (b : Bool) → length (boolText b) + boolByte b ≡ 5
+entry-len true = refl
+entry-len false = refl
+
+-- each entry and its comma have 6 bytes, but for one less where it is true; and the bracket
+pub marks-len : (m n : ℕ) → length (itemsText boolText (marksOf m n)) + countOf m n ≡ 6 * n + 1
+unfolding countOf
+marks-len m zero = omega (arith, ap length (marks-none m 0 (omega arith)))
+marks-len m (suc n) =
+    rw (marks-last n m) (omega (arith, items-last (marksOf m n) (has m n), entry-len (has m n), marks-len m n))
 
 pub marks-len-le : (n m : ℕ) → length (itemsText boolText (marksOf m n)) ≤ 6 * n + 1
-marks-len-le zero m = omega (arith, marks-len-none m 0 (omega arith))
-marks-len-le (suc n) m = omega (arith, rw sub-one at (marks-len-more m (suc n) (omega arith)), marks-len-le n (m / 2))
+marks-len-le n m = omega (arith, marks-len m n)
 
 pub bitmap-len-none : (b : Bitmap) → b .len ≡ 0 → length (bitmapText b) ≡ 2
 bitmap-len-none b h = ap length (bitmap-none b h)
@@ -88,6 +100,14 @@ bitmap-len-none b h = ap length (bitmap-none b h)
 -- the opening bracket takes the place of the first comma
 pub bitmap-len-more : (b : Bitmap) → (b .len ≡ 0 → ⊥) → length (bitmapText b) ≡ length (itemsText boolText (marksOf (b .marks) (b .len)))
 bitmap-len-more b h = ap length (bitmap-more b h) ∙ sym (ap length (marks-more (b .marks) (b .len) (omega arith)))
+
+pub bitmap-len-is : (b : Bitmap) → length (bitmapText b) ≡ bitmapLen b
+unfolding bitmapLen
+bitmap-len-is b = go (eqb (b .len) 0) refl
+  where
+    go : (t : Bool) → eqb (b .len) 0 ≡ t → length (bitmapText b) ≡ either t 2 (1 + 6 * b .len - countOf (b .marks) (b .len))
+    go true e = bitmap-len-none b (eqb-true (b .len) 0 e)
+    go false e = omega (arith, bitmap-len-more b (eqb-false (b .len) 0 e), marks-len (b .marks) (b .len))
 
 pub bitmap-len-le : (b : Bitmap) → length (bitmapText b) ≤ 6 * b .len + 2
 bitmap-len-le b = go (eqb (b .len) 0) refl

@@ -13,7 +13,7 @@ use Rattle.texts.specs.Put.{written, Put, Room}
 use Rattle.texts.specs.Decimal.{decimal}
 use Rattle.texts.specs.Readers.{boolText}
 use Rattle.packets.specs.Packets.{limits, phaseText, bitmapText, dataText, txText, stateText, ceText, pipelineText}
-use Rattle.packets.specs.Writing.{refused, wroteOf, leftOf}
+use Rattle.packets.specs.Writing.{textLen, refused, wroteOf, leftOf}
 use Rattle.packets.specs.declared.Wrote.{Wrote}
 use Rattle.packets.specs.declared.TwoPcPhase.{TwoPcPhase}
 use Rattle.packets.specs.declared.TwoPcPhase.the-variants.{Prepare, Committed, Aborted}
@@ -29,6 +29,10 @@ limits-true a b h = go (leb a 64) refl h
     go : (t : Bool) → leb a 64 ≡ t → (t && leb b 32) ≡ true → (a ≤ 64) × (b ≤ 32)
     go true e k = (leb-true a 64 e, leb-true b 32 k)
     go false e k = let z : _≡_ {A = ℕ} 0 1 = cc in absurd (omega arith)
+
+-- within the limits what is measured is the text
+pub measured : (fine : Bool) (t : List ℕ) (r : ℕ) → fine ≡ true → r ≡ textLen fine t → r ≡ length t
+measured fine t r e h = h ∙ rw e
 
 module _ (t d : List ℕ) (at : ℕ) where
   pub wrote-bad : (fine : Bool) → fine ≡ false → (refused badPacket ≡ wroteOf fine t d at) × (d ≡ leftOf fine t d at)

@@ -4,14 +4,15 @@ use crate::Data;
 use crate::PiggybackState;
 use crate::PiggybackTx;
 use crate::TwoPcPhase;
+use graph::sets;
 ghost use mathlib.Core.Path.{_≡_};
 ghost use Prim.Native.Nat.{_≤_};
 ghost use lib.ListN.{length, take};
 ghost use Rattle.limits.specs.Limits.{bitmapEntries, dataBytes};
 ghost use Rattle.texts.specs.Decimal.{decimal};
-ghost use Rattle.marks.specs.Marks.{marksOf};
 ghost use Rattle.texts.specs.Readers.{boolText, itemsText};
 ghost use Rattle.packets.specs.Packets.{limits, phaseText, bitmapText, dataText, txText, stateText};
+ghost use Rattle.packets.specs.Writing.{dataLen};
 
 pub(crate) fn decimal_len(n: u64) -> usize
     ensures { λ r. ⌜ (r ≡ length (decimal n)) × (r ≤ 20) ⌝ }
@@ -41,31 +42,16 @@ pub(crate) fn phase_len(p: TwoPcPhase) -> usize
     }
 }
 
-// An entry and what stands before it are 5 bytes for true and 6 for false, and the closing bracket is 1.
-fn marks_len(m: u64, n: usize) -> usize
-    requires { ⌜ n ≤ bitmapEntries ⌝ }
-    ensures { λ r. ⌜ r ≡ length (itemsText boolText (marksOf m n)) ⌝ }
-{
-    let mut len = 1;
-    let mut rest = m;
-    let mut left = n;
-    while 0 < left {
-        len = len + 6 - (rest % 2) as usize;
-        rest = rest / 2;
-        left -= 1;
-    }
-    len
-}
-
+// An entry and what stands before it are 6 bytes, of which `true` needs one less, and the closing bracket is 1.
 pub(crate) fn bitmap_len(b: Bitmap) -> usize
     requires { ⌜ b .len ≤ bitmapEntries ⌝ }
     ensures { λ r. ⌜ r ≡ length (bitmapText b) ⌝ }
 {
     if b.len == 0 {
-        2
-    } else {
-        marks_len(b.marks, b.len)
+        return 2;
     }
+    let there = sets::intersection(b.marks, sets::first_marks(b.len));
+    1 + 6 * b.len - sets::count_marks(there)
 }
 
 fn small_len(b: u8) -> usize
@@ -101,6 +87,16 @@ pub(crate) fn data_len(d: Data) -> usize
     } else {
         bytes_len(&bytes, d.len)
     }
+}
+
+// The length of the data's text, 0 for data of too many bytes, which has none.
+pub fn data_text_len(d: Data) -> usize
+    ensures { λ r. ⌜ (r ≡ dataLen d) × (r ≤ 129) ⌝ }
+{
+    if d.len > limits::DATA {
+        return 0;
+    }
+    data_len(d)
 }
 
 pub(crate) fn tx_len(p: PiggybackTx) -> usize

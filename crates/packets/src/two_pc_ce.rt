@@ -15,35 +15,42 @@ use limits::refusals;
 ghost use mathlib.Core.Path.{_≡_};
 ghost use Prim.Native.Nat.{_≤_};
 ghost use lib.ListN.{length};
-ghost use Rattle.limits.specs.Limits.{bitmapEntries, dataBytes};
+ghost use Rattle.limits.specs.Limits.{dataBytes};
 ghost use Rattle.texts.specs.Put.{Put, Room};
 ghost use Rattle.packets.specs.Packets.{ceText, ceWithin, proposalData};
-ghost use Rattle.packets.specs.Writing.{textLen, wroteOf, leftOf};
+ghost use Rattle.packets.specs.Writing.{textLen, partsLen, wroteOf, leftOf};
 ghost use Rattle.packets.specs.Reading.{ceNo, ceReadOf, ceRead};
 
-// The names, braces, commas and colons are 51 bytes.
-fn ce_len(p: CeTwoPcPacket) -> usize
-    requires { ⌜ (p .«flags_bitmap» .len ≤ bitmapEntries) × (p .«proposal_data» .len ≤ dataBytes) ⌝ }
-    ensures { λ r. ⌜ r ≡ length (ceText p) ⌝ }
+// The length of a packet's text from its parts, `data` being the length of its data's text; 0 where the bitmap has too
+// many entries, or `data` is 0 or more than such a text can have. Names, braces, commas and colons are 51 bytes.
+pub fn ce_parts_len(term: u64, phase: TwoPcPhase, data: usize, flags_bitmap: Bitmap) -> usize
+    ensures { λ r. ⌜ r ≡ partsLen term phase «data» «flags_bitmap» ⌝ }
 {
-    let phase = p.phase;
-    let proposal_data = p.proposal_data;
-    let flags_bitmap = p.flags_bitmap;
-    51
-        + len::decimal_len(p.term)
-        + len::phase_len(phase)
-        + len::data_len(proposal_data)
-        + len::bitmap_len(flags_bitmap)
+    if flags_bitmap.len > limits::BITMAP {
+        return 0;
+    }
+    if data == 0 {
+        return 0;
+    }
+    if data > 129 {
+        return 0;
+    }
+    51 + len::decimal_len(term) + len::phase_len(phase) + data + len::bitmap_len(flags_bitmap)
 }
 
 // The length of a packet's text, 0 for a packet outside the limits, which has none.
 pub fn ce_text_len(p: CeTwoPcPacket) -> usize
     ensures { λ r. ⌜ r ≡ textLen (ceWithin p) (ceText p) ⌝ }
 {
-    if !len::within(p.flags_bitmap.len, p.proposal_data.len) {
-        return 0;
-    }
-    ce_len(p)
+    let phase = p.phase;
+    let proposal_data = p.proposal_data;
+    let flags_bitmap = p.flags_bitmap;
+    ce_parts_len(
+        p.term,
+        phase,
+        len::data_text_len(proposal_data),
+        flags_bitmap,
+    )
 }
 
 fn put_ce(buf: &mut [u8], at: usize, p: CeTwoPcPacket) -> usize
@@ -77,7 +84,7 @@ pub fn write_ce_packet(buf: &mut [u8], at: usize, p: CeTwoPcPacket) -> Wrote
             next: 0,
         };
     }
-    if ce_len(p) > buf.len() - at {
+    if ce_text_len(p) > buf.len() - at {
         return Wrote {
             refusal: refusals::NO_FIT,
             next: 0,

@@ -21,7 +21,7 @@ use Rattle.merges.proofs.Growth.{merges-grow, merges-keep-term, empty-adopts, n
 use Rattle.merges.proofs.Limits.{merges-valid}
 use Rattle.engines.specs.Clamp.{atMost64}
 use Rattle.capture.specs.Ce.{hearingOf, toldAt, toldAll}
-use Rattle.capture.specs.declared.ce.SlotMerges.{SlotMerges}
+use Rattle.capture.specs.Ce.{SlotMerges}
 
 -- ---- the order of packets
 

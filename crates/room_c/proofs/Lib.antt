@@ -1,2 +1,3 @@
 pub mod Running
 pub mod Called
+pub mod Rounding

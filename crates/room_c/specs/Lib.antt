@@ -1,2 +1,3 @@
 pub mod Console
 pub mod Calls
+pub mod Rounds

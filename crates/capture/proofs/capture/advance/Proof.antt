@@ -1,17 +1,23 @@
+use native.Mathlib.Omega.{arith}
+use Rattle.capture.proofs.Running.{advanced-idle, advanced-slot}
 use borrow.Author.Needs.{needs}
-use Rattle.engines.proofs.Rounds.{stepped-slot}
-use Rattle.capture.proofs.Idling.{stepped-idle}
 use Rattle.capture.proofs.capture.advance.Statement.{statement}
 use Rattle.capture.proofs.capture.advance.Tie as tie
 
 returns : tie.Need-returns
 returns c =
-    let found = c .before .before .idle-slots .ensures in
-    let some = c .before .if2 .taken in
-    stepped-idle _ _ some (found .0) (found .1 some) (c .pass-idle .ensures)
+    let k = c .before .before .before .before .before .idle-slots in (
+      omega (arith, k .ensures .0, c .before .before .before .before .if1 .taken),
+      λ conf base state g o. rw (c .wrapping-add-u64 .ensures, c .before .pass .ensures)
+          (advanced-idle _ conf base state _ _ (c .before .before .before .before .if1 .taken) (k .ensures .0) (k .ensures .1 conf base state _ g o (c .before .before .before .before .if1 .taken)) o),
+    )
 
 returns-2 : tie.Need-returns-2
-returns-2 c = let pre = c .before .before .before .before .before .pre in stepped-slot _ _ _ _ (pre .0) (pre .1) (c .before .before .slot .ensures)
+returns-2 c =
+    let pre = c .before .before .before .before .before .before .pre in (
+      omega (arith, pre .0),
+      λ conf base state g o. advanced-slot _ conf base state _ (pre .0) (pre .1) o (c .slot .ensures conf base state g o),
+    )
 
 pub advance-spec : {M : Type 1} → statement M
 advance-spec =
@@ -19,7 +25,8 @@ advance-spec =
     (tie.spec
     (λ c κs. search needs)
     (λ c κs. search needs)
-    (λ c. search needs)
+    (λ c κs. search needs)
+    (λ c. c .before .before .before .before .before .idle-slots .ensures .0)
     returns
     (λ c κs. search needs)
     (λ c. search needs)

@@ -1,27 +1,29 @@
-use mathlib.Core.Path.{_≡_, refl, ap, _∙_}
-use Prim.Native.Nat.{ℕ, _+_, _%_, _<_, _^_}
 use native.Mathlib.Omega.{arith}
-use borrow.Author.Needs.{needs}
+use Prim.Native.Nat.{_+_, _%_, _<_, _^_}
+use mathlib.Core.Path.{_≡_, refl}
 use Rattle.marks.specs.Marks.{countOf}
 use Rattle.marks.specs.Sets.{lowest-lt}
-use Rattle.engines.specs.Marked.{overMarks}
-use Rattle.capture.specs.Ce.{sentAt, sentOf}
 use Rattle.engines.proofs.Marking.{without, over-less, over-turn, over-none}
+use Rattle.engines.specs.Marked.{overMarks}
+use Rattle.capture.specs.Boards.{lengthBy, sentBy}
+use borrow.Author.Needs.{needs}
 use Rattle.capture.proofs.ce.bytes_of.Statement.{statement}
 use Rattle.capture.proofs.ce.bytes_of.Tie as tie
 
 abbrev Inv-loop : tie.InvT-loop
-Inv-loop flooding held sum₀ left₀ sum left = (left < 2 ^ 64) × (overMarks left (sentAt held) sum ≡ overMarks flooding (sentAt held) 0)
+Inv-loop flooding p table sum₀ left₀ sum left =
+    (left < 2 ^ 64)
+    × (overMarks left (λ i s. (s + lengthBy p table i) % 2 ^ 64) sum ≡ overMarks flooding (λ i s. (s + lengthBy p table i) % 2 ^ 64) 0)
 
 abbrev μ-loop : tie.MeasureT-loop
-μ-loop flooding held sum₀ left₀ sum left = countOf left 64
+μ-loop flooding p table sum₀ left₀ sum left = countOf left 64
 
 loop-again : tie.Need-loop-again Inv-loop μ-loop
-unfolding sentAt
-loop-again c = (omega arith, over-turn _ (without _ _ _ (c .before .before .before .before .before .before .loop .inv .0) (c .before .before .before .before .before .loop-test .taken) (c .before .before .before .before .lowest-mark .ensures) (c .without-mark .ensures)) (c .before .wrapping-add-u64 .ensures ∙ ap (λ (x : ℕ). (c .before .before .before .before .before .before .loop .sum + x) % 2 ^ 64) (c .before .before .payload-len .ensures)) (c .before .before .before .before .before .before .loop .inv .1))
+loop-again c =
+    let w = without _ _ _ (c .before .before .before .before .before .loop .inv .0) (c .before .before .before .before .loop-test .taken) (c .before .before .before .lowest-mark .ensures) (c .without-mark .ensures) in (omega arith, over-turn _ w (rw (c .before .wrapping-add-u64 .ensures, c .before .before .text-len .ensures)) (c .before .before .before .before .before .loop .inv .1))
 
 returns : tie.Need-returns Inv-loop μ-loop
-unfolding sentOf
+unfolding sentBy
 returns c = over-none _ (c .loop-test .left) (c .before .loop .inv .1)
 
 pub bytes-of-spec : {M : Type 1} → statement M
@@ -32,11 +34,9 @@ bytes-of-spec =
     μ-loop
     (λ c. (omega arith, refl))
     (λ c κs. search needs)
-    (λ c. search needs)
-    (λ c. lowest-lt _ _ (c .before .before .loop .inv .0) (c .before .loop-test .taken) (c .lowest-mark .ensures))
+    (λ c κs. lowest-lt _ _ (c .before .before .loop .inv .0) (c .before .loop-test .taken) (c .lowest-mark .ensures))
     (λ c κs. search needs)
     (λ c κs. search needs)
-    (λ c κs. search needs)
-    (λ c. over-less (without _ _ _ (c .before .before .before .before .before .before .loop .inv .0) (c .before .before .before .before .before .loop-test .taken) (c .before .before .before .before .lowest-mark .ensures) (c .without-mark .ensures)))
+    (λ c. over-less (without _ _ _ (c .before .before .before .before .before .loop .inv .0) (c .before .before .before .before .loop-test .taken) (c .before .before .before .lowest-mark .ensures) (c .without-mark .ensures)))
     loop-again
     returns)

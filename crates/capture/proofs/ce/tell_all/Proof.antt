@@ -1,25 +1,49 @@
-use mathlib.Core.Bool.{Bool}
-use mathlib.Core.Path.{_≡_, ap, _∙_}
-use Prim.Native.Nat.{_≤_, _-_}
 use native.Mathlib.Omega.{arith}
+use Prim.Native.Nat.{ℕ, _<_, _^_}
+use mathlib.Core.Bool.{true}
+use mathlib.Core.List.{List}
+use mathlib.Core.Path.{_≡_, refl, _∙_}
+use Rattle.marks.specs.Marks.{has, countOf}
+use Rattle.marks.specs.Sets.{lowest-lt}
+use Rattle.engines.proofs.Marking.{without, over-less}
+use Rattle.capture.specs.Boards.{ShownHeld, Kept, Apart}
+use Rattle.merges.specs.declared.merging.Payload.{Payload}
+use Rattle.capture.proofs.Holding.{held-length}
+use Rattle.capture.proofs.Telling.{Left, left-first, left-turn, left-held, left-news, within-turn}
 use borrow.Author.Needs.{needs}
-use Rattle.loops.specs.Upto.{upto, upto-none, upto-turn, upto-all}
-use Rattle.capture.specs.Ce.{notedIf, toldAt, toldAll}
-use Rattle.capture.specs.declared.ce.SlotMerges.{SlotMerges}
-use Rattle.engines.specs.Clamp.{atMost64}
-use Rattle.capture.proofs.Telling.{hearing-is, told-is}
 use Rattle.capture.proofs.ce.tell_all.Statement.{statement}
 use Rattle.capture.proofs.ce.tell_all.Tie as tie
 
 abbrev Inv-loop : tie.InvT-loop
-Inv-loop voting held hears count after₀ new-info₀ goal-reached₀ can-sleep₀ i₀ after new-info goal-reached can-sleep i = (count ≡ atMost64 (voting .n)) × (i ≤ count) × (record { held = after; «new_info» = new-info; «goal_reached» = goal-reached; «can_sleep» = can-sleep } ≡ upto i (toldAt voting hears held) (record { held = held; «new_info» = 0; «goal_reached» = 0; «can_sleep» = 0 }))
+Inv-loop voting targets hears table₀ t₀ left₀ table t left =
+    (left < 2 ^ 64) × ((j : ℕ) → has left j ≡ true → has targets j ≡ true) × Kept table₀ table
+    × ((base held : List Payload) → ShownHeld (voting .n) base (t₀ .phases) (t₀ .«can_sleep») table₀ held → Apart (voting .n) hears targets
+    → Left voting hears targets base held (t₀ .«new_info») left t table)
 
 abbrev μ-loop : tie.MeasureT-loop
-μ-loop voting held hears count after₀ new-info₀ goal-reached₀ can-sleep₀ i₀ after new-info goal-reached can-sleep i = count - i
+μ-loop voting targets hears table₀ t₀ left₀ table t left = countOf left 64
+
+loop-again : tie.Need-loop-again Inv-loop μ-loop
+loop-again c =
+    let inv = c .before .before .before .before .before .before .loop .inv in
+    let w = without _ _ _ (c .before .before .before .before .before .before .loop .inv .0) (c .before .before .before .before .before .loop-test .taken) (c .before .before .before .before .lowest-mark .ensures) (c .without-mark .ensures) in
+    let target = inv .1 _ (w .there) in
+    let told = c .before .tell .ensures in (
+      omega arith,
+      within-turn _ w (inv .1),
+      (λ q h. told .kept q h ∙ inv .2 q h),
+      λ base held o a. left-turn _ _ _ base held _ a target w told (inv .3 base held o a),
+    )
 
 returns : tie.Need-returns Inv-loop μ-loop
-unfolding toldAll
-returns c = upto-all _ _ (omega arith) (omega arith) (c .before .loop .inv .2)
+returns c =
+    let inv = c .before .loop .inv in
+    let none = c .loop-test .left in
+    record {
+      kept = inv .2;
+      news = λ base held a e o. left-news _ _ _ base held _ e a none (inv .3 base held o a);
+      shown = λ base held a e o. left-held _ _ _ base held _ e a (held-length o) none (inv .3 base held o a);
+    }
 
 pub tell-all-spec : {M : Type 1} → statement M
 tell-all-spec =
@@ -27,35 +51,12 @@ tell-all-spec =
     (tie.spec
     Inv-loop
     μ-loop
-    (λ c κs. search needs)
-    (λ c. (c .at-most-64 .ensures, omega arith, upto-none _ _))
-    (λ c. search needs)
-    (λ c. search needs)
-    (λ c. search needs)
-    (λ c. search needs)
-    (λ c. search needs)
-    (λ c. search needs)
+    (λ c. (omega arith, (λ j e. e), (λ q h. refl), λ base held o a. left-first _ _ _ base held _ refl o))
     (λ c κs. search needs)
     (λ c. search needs)
-    (λ c. search needs)
+    (λ c. lowest-lt _ _ (c .before .before .loop .inv .0) (c .before .loop-test .taken) (c .lowest-mark .ensures))
+    (λ c κs. lowest-lt _ _ (c .before .before .before .before .loop .inv .0) (c .before .before .before .loop-test .taken) (c .before .before .lowest-mark .ensures))
     (λ c κs. search needs)
-    (λ c κs. search needs)
-    (λ c κs. search needs)
-    (λ c κs. search needs)
-    (λ c κs. search needs)
-    (λ c κs. search needs)
-    (λ c. search needs)
-    (λ c. search needs)
-    (λ c. let l = c .before .before .before .before .before .before .before .before .before .before .before in
-    let s = c .before .before .before .before .before .before .before .before .before .before .before .before .before in
-    let t : SlotMerges = record { held = l .loop .after; «new_info» = l .loop .new-info; «goal_reached» = l .loop .goal-reached; «can_sleep» = l .loop .can-sleep } in (
-      l .loop .inv .0,
-      omega arith,
-      upto-turn _ _ (l .loop .inv .2)
-          (told-is (s .args .voting) (s .args .t3) (s .args .t2) (l .loop .i) t (c .before .before .before .before .before .before .before .hear .result) _ _ _
-          (hearing-is (s .args .voting) (s .args .t3) (s .args .t2) (l .loop .i) (c .before .before .before .before .before .before .before .hear .result) (c .before .before .before .before .before .before .before .hear .ensures))
-          (c .before .before .before .before .note .ensures ∙ ap (λ (x : Bool). notedIf x (c .before .before .before .before .before .before .before .before .before .before .before .loop .i) (c .before .before .before .before .before .before .before .before .before .before .before .loop .new-info)) (c .before .before .before .before .before .is-news .ensures))
-          (c .before .before .note2 .ensures ∙ ap (λ (x : Bool). notedIf x (c .before .before .before .before .before .before .before .before .before .before .before .loop .i) (c .before .before .before .before .before .before .before .before .before .before .before .loop .goal-reached)) (c .before .before .before .node-goal-reached .ensures))
-          (c .note3 .ensures ∙ ap (λ (x : Bool). notedIf x (c .before .before .before .before .before .before .before .before .before .before .before .loop .i) (c .before .before .before .before .before .before .before .before .before .before .before .loop .can-sleep)) (c .before .node-can-sleep .ensures))),
-    ))
+    (λ c. over-less (without _ _ _ (c .before .before .before .before .before .before .loop .inv .0) (c .before .before .before .before .before .loop-test .taken) (c .before .before .before .before .lowest-mark .ensures) (c .without-mark .ensures)))
+    loop-again
     returns)

@@ -1,28 +1,38 @@
-use Prim.Native.Nat.{ℕ, _≤_, _<_, _-_}
 use native.Mathlib.Omega.{arith}
-use lib.ListN.{getD}
-use borrow.Author.Count.{below-more}
+use Prim.Native.Nat.{_≤_, _<_, _^_}
+use Rattle.marks.specs.Marks.{countOf}
+use Rattle.engines.specs.Columns.{cell}
+use Rattle.engines.proofs.Marking.{without, over-less}
+use Rattle.capture.proofs.Resting.{Waited, waited-none, waited-more, waited-all}
 use borrow.Author.Needs.{needs}
-use Rattle.engines.specs.Nodes.{noNode}
-use Rattle.capture.specs.Idle.{Waits}
-use Rattle.capture.proofs.Idling.{waits-less}
 use Rattle.capture.proofs.idle.shortest_wait.Statement.{statement}
 use Rattle.capture.proofs.idle.shortest_wait.Tie as tie
 
 abbrev Inv-loop : tie.InvT-loop
-Inv-loop n slot timeout most at count wait₀ i₀ wait i = (i ≤ count) × (wait ≤ most) × (0 < wait → (j : ℕ) → j < i → Waits slot timeout wait (getD at j noNode))
+Inv-loop listening table slot timeout most wait₀ left₀ wait left =
+    (left < 2 ^ 64) × (wait ≤ most) × Waited listening table slot timeout wait left
 
 abbrev μ-loop : tie.MeasureT-loop
-μ-loop n slot timeout most at count wait₀ i₀ wait i = count - i
+μ-loop listening table slot timeout most wait₀ left₀ wait left = countOf left 64
 
-loop-again : tie.Need-loop-again Inv-loop μ-loop
-loop-again c =
-    let inv = c .before .before .before .loop .inv in
-    let less = c .waits-for .ensures .0 in
-    (search needs, omega (arith, inv .1, less), λ p. below-more _ _ (λ j h. waits-less less (inv .2 (omega arith) j h)) (c .waits-for .ensures .1 p))
+less : tie.Need-loop-less Inv-loop μ-loop
+less c =
+    let chosen = c .before .before .before in
+    let test = chosen .before in
+    let inv = test .before .loop .inv in
+    let gone = c .without-mark .ensures in
+    over-less (without _ _ _ (inv .0) (test .loop-test .taken) (chosen .lowest-mark .ensures) gone)
 
-returns : tie.Need-returns Inv-loop μ-loop
-returns c = (c .before .loop .inv .1, λ p i h. c .before .loop .inv .2 p i (omega (arith, h, c .loop-test .left, c .before .before .at-most-64 .ensures)))
+again : tie.Need-loop-again Inv-loop μ-loop
+unfolding cell
+again c =
+    let chosen = c .before .before .before in
+    let test = chosen .before in
+    let inv = test .before .loop .inv in
+    let due = c .before .until-due .ensures in
+    let gone = c .without-mark .ensures in
+    let w = without _ _ _ (inv .0) (test .loop-test .taken) (chosen .lowest-mark .ensures) gone in
+    (omega arith, omega (arith, inv .1, due .0), waited-more (inv .2) (due .0) (due .1) w)
 
 pub shortest-wait-spec : {M : Type 1} → statement M
 shortest-wait-spec =
@@ -30,12 +40,13 @@ shortest-wait-spec =
     (tie.spec
     Inv-loop
     μ-loop
-    (λ c κs. search needs)
-    (λ c. (search needs, search needs, λ p j h. absurd (omega arith)))
-    (λ c. search needs)
-    (λ c. search needs)
+    (λ c. (omega arith, omega arith, waited-none))
     (λ c κs. search needs)
     (λ c. search needs)
     (λ c. search needs)
-    loop-again
-    returns)
+    (λ c. search needs)
+    (λ c κs. search needs)
+    (λ c κs. search needs)
+    less
+    again
+    (λ c. (c .before .loop .inv .1, waited-all (c .before .loop .inv .2) (c .loop-test .left))))

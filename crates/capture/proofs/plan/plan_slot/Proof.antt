@@ -1,7 +1,13 @@
-use Rattle.capture.proofs.Hearing.{plan-is}
+use Rattle.capture.proofs.Resting.{planned-by}
 use borrow.Author.Needs.{needs}
 use Rattle.capture.proofs.plan.plan_slot.Statement.{statement}
 use Rattle.capture.proofs.plan.plan_slot.Tie as tie
+
+returns : tie.Need-returns
+returns c =
+    let found = c .before .before .before .before .before in
+    planned-by _ _ _ _ _ _ _ _ (found .before .toss-all .ensures) (found .find-targets .ensures)
+    (c .before .before .capture-all .ensures) (c .count-marks .ensures)
 
 pub plan-slot-spec : {M : Type 1} → statement M
 plan-slot-spec =
@@ -11,4 +17,4 @@ plan-slot-spec =
     (λ c κs. search needs)
     (λ c κs. search needs)
     (λ c κs. search needs)
-    (λ c. plan-is _ _ _ _ _ _ _ _ (c .before .before .before .before .before .before .toss-all .ensures) (c .before .before .before .before .before .find-targets .ensures) (c .before .before .capture-all .ensures) (c .count-marks .ensures)))
+    returns)

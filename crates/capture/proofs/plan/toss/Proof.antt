@@ -11,7 +11,15 @@ returns c = rw (sym (c .before .timed-out .ensures) ∙ not-true _ (c .if1 .take
 
 returns-2 : tie.Need-returns-2
 unfolding tossed1
-returns-2 c = rw (sym (c .before .before .before .before .before .before .timed-out .ensures) ∙ not-false _ (c .before .before .before .before .before .if1 .left), c .before .mark-if .ensures, c .before .before .coin .ensures, c .before .before .before .next .ensures)
+returns-2 c =
+    let drawn = c .before .before .before in
+    let due = drawn .before .before in
+    rw (
+      sym (due .before .timed-out .ensures) ∙ not-false _ (due .if1 .left),
+      c .before .mark-if .ensures,
+      c .before .before .coin .ensures,
+      drawn .next .ensures,
+    )
 
 pub toss-spec : {M : Type 1} → statement M
 toss-spec =

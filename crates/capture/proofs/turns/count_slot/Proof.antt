@@ -5,7 +5,8 @@ use Rattle.capture.proofs.turns.count_slot.Tie as tie
 
 returns : tie.Need-returns
 unfolding countedSlot
-returns c = rw (c .wrapping-add-u643 .ensures, c .before .wrapping-add-u642 .ensures, c .before .before .wrapping-add-u64 .ensures)
+returns c =
+    λ hears. rw (c .wrapping-add-u643 .ensures, c .before .wrapping-add-u642 .ensures, c .before .before .wrapping-add-u64 .ensures)
 
 pub count-slot-spec : {M : Type 1} → statement M
 count-slot-spec =

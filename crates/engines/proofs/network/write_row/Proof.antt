@@ -1,9 +1,8 @@
 use mathlib.Core.Path.{sym, _∙_}
-use native.Mathlib.Omega.{arith}
-use lib.ListN.{length}
 use borrow.Author.Needs.{needs}
-use borrow.Author.Tests.{not-true, not-false}
-use Rattle.engines.proofs.Writing.{put-none, put-full, put-part}
+use borrow.Author.Tests.{not-true}
+use Rattle.engines.specs.Network.{slotRow}
+use Rattle.engines.proofs.Writing.{put-none}
 use Rattle.engines.proofs.network.write_row.Statement.{statement}
 use Rattle.engines.proofs.network.write_row.Tie as tie
 
@@ -13,24 +12,10 @@ returns c =
     put-none (s .conf) (s .w) (s .rows .now) (s .at) (sym (c .before .row-due .ensures) ∙ not-true _ (c .if1 .taken))
 
 returns-2 : tie.Need-returns-2
+unfolding slotRow
 returns-2 c =
-    let s = c .before .before .before .before .args in
-    put-full (s .conf) (s .w) (s .rows .now) (s .at) (sym (c .before .before .row-due .ensures) ∙ not-false _ (c .before .if1 .left)) (omega (arith, c .if2 .taken))
-
-returns-3 : tie.Need-returns-3
-returns-3 c =
-    let s = c .before .before .before .before .before .args in
-    put-full (s .conf) (s .w) (s .rows .now) (s .at) (sym (c .before .before .before .row-due .ensures) ∙ not-false _ (c .before .before .if1 .left))
-    (omega (arith, c .if3 .taken, c .before .if2 .left))
-
-returns-4 : tie.Need-returns-4
-returns-4 c =
-    let shot = c .before .before .before .before in
-    let room = shot .before .before .before in
-    let s = room .before .before .before .before .before .args in
-    rw (c .before .before .put-row .ensures)
-    (put-part (s .conf) (s .w) (s .rows .now) (s .at) (sym (room .before .before .before .row-due .ensures) ∙ not-false _ (room .before .before .if1 .left))
-    (omega (arith, room .if3 .left, room .before .if2 .left)) (shot .take-snapshot .ensures ∙ rw (shot .before .tick-all .ensures)))
+    let called = c .before .before in
+    rw (← called .before .before .before .tick-all .ensures, ← called .before .before .take-snapshot .ensures) (called .put-due .ensures)
 
 pub write-row-spec : {M : Type 1} → statement M
 write-row-spec =
@@ -38,16 +23,8 @@ write-row-spec =
     (tie.spec
     (λ c κs. search needs)
     returns
-    returns-2
-    (λ c. search needs)
-    returns-3
+    (λ c κs. search needs)
     (λ c κs. search needs)
     (λ c κs. search needs)
     (λ c. search needs)
-    (λ c. search needs)
-    (λ c. search needs)
-    (λ c. search needs)
-    (λ c κs. search needs)
-    (λ c. search needs)
-    (λ c. search needs)
-    returns-4)
+    returns-2)

@@ -1,3 +1,4 @@
+use mathlib.Core.Path.{_∙_}
 use Rattle.merges.specs.Merging.{ensureOf}
 use borrow.Author.Needs.{needs}
 use Rattle.merges.proofs.merging.ensure_bitmap_len.Statement.{statement}
@@ -5,7 +6,7 @@ use Rattle.merges.proofs.merging.ensure_bitmap_len.Tie as tie
 
 returns : tie.Need-returns
 unfolding ensureOf
-returns c = rw (c .with-state .ensures, c .before .filled .ensures)
+returns c d = c .with-state .ensures d ∙ rw (c .before .filled .ensures)
 
 pub ensure-bitmap-len-spec : {M : Type 1} → statement M
 ensure-bitmap-len-spec = tie.close (tie.spec

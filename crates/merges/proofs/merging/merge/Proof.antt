@@ -13,7 +13,7 @@ returns-2 c = rw (c .redundant-merge2 .ensures, c .before .enum-told2 .given .1)
 
 returns-3 : tie.Need-returns-3
 unfolding mergeOf mergedBy
-returns-3 c = rw (c .hear .ensures, c .before .enum-told3 .given .1)
+returns-3 c = rw (c .merge-packet .ensures, c .before .enum-told3 .given .1)
 
 pub merge-spec : {M : Type 1} → statement M
 merge-spec =

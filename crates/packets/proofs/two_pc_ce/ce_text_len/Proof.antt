@@ -1,21 +1,16 @@
-use mathlib.Core.Path.{sym, _∙_}
+use mathlib.Core.Path.{sym}
 use borrow.Author.Needs.{needs}
-use borrow.Author.Tests.{not-true, not-false}
-use Rattle.packets.proofs.Writes.{limits-true}
+use Rattle.packets.proofs.Lengths.{parts-is}
 use Rattle.packets.proofs.two_pc_ce.ce_text_len.Statement.{statement}
 use Rattle.packets.proofs.two_pc_ce.ce_text_len.Tie as tie
 
-within-requires : tie.Need-within-requires
-within-requires c κs = search needs
-
 returns : tie.Need-returns
-returns c = rw (sym (c .before .within .ensures) ∙ not-true _ (c .if1 .taken))
-
-ce-len-requires : tie.Need-ce-len-requires
-ce-len-requires c κs = limits-true (c .before .before .args .p .«flags_bitmap» .len) (c .before .before .args .p .«proposal_data» .len) (sym (c .before .within .ensures) ∙ not-false _ (c .if1 .left))
-
-returns-2 : tie.Need-returns-2
-returns-2 c = rw (sym (c .before .before .within .ensures) ∙ not-false _ (c .before .if1 .left)) (c .ce-len .ensures)
+returns c =
+    let d = c .before .data-text-len in
+    rw (c .ce-parts-len .ensures, d .ensures .0) (sym (parts-is _ (rw (d .ensures .0) at (d .ensures .1))))
 
 pub ce-text-len-spec : {M : Type 1} → statement M
-ce-text-len-spec = tie.close (tie.spec within-requires returns ce-len-requires returns-2)
+ce-text-len-spec = tie.close (tie.spec
+    (λ c κs. search needs)
+    (λ c κs. search needs)
+    returns)
