@@ -18,7 +18,9 @@ use Rattle.room.specs.Kinds.{positionsOf}
 use Rattle.room.specs.Capturing.{noesOf}
 use Rattle.room.specs.Rooms.{sizeOf, heldAt, openOf}
 use Rattle.demand.specs.Calls.{Call, Propose, CaptureRound, PipelineRound, Read, handed, ticks, after, elapsed, moments}
-use Rattle.demand.specs.Demand.{HoldsPhase, AllVoteYes, Holds, Demand3}
+use Rattle.demand.specs.Demand.{AllVoteYes, Holds, Demand3}
+use Rattle.demand.specs.Texts.{HoldsValue}
+use Rattle.demand.proofs.Values.{value-held}
 use Rattle.engines.proofs.Sums.{first-total}
 use Rattle.room.proofs.Moments.{Inv, Le, le-same, le-more, Before, before-cases, then-later, Way, way-none}
 use Rattle.room.proofs.Calling.{opened, term-at, propose-way, capture-way}
@@ -70,7 +72,7 @@ ran (c ∷ cs) r i =
 -- ---- what the invariant of two moments and the order between them come to
 
 -- what a position that holds a phase claims
-claimed : (r : Room) (v t : ℕ) (f : TwoPcPhase) → Inv r → HoldsPhase r v t f → Claim (noesOf (r .conf)) (sizeOf r) t f (heldAt r v .packet .«flags_bitmap»)
+claimed : (r : Room) (v t : ℕ) (f : TwoPcPhase) → Inv r → HoldsValue r v t f → Claim (noesOf (r .conf)) (sizeOf r) t f (heldAt r v .packet .«flags_bitmap»)
 claimed r v t f i h =
     let p = heldAt r v .packet in
     let nay = noesOf (r .conf) in
@@ -96,7 +98,7 @@ abort-rank Aborted l = refl
 
 module _ {a b : Room} (i : Inv a) (j : Inv b) (l : Le a b) where
   -- what is held for a term is held for it in no lower phase later
-  up : (v t : ℕ) (f g : TwoPcPhase) → HoldsPhase a v t f → HoldsPhase b v t g → rankOf f ≤ rankOf g
+  up : (v t : ℕ) (f g : TwoPcPhase) → HoldsValue a v t f → HoldsValue b v t g → rankOf f ≤ rankOf g
   up v t f g x y =
       let e : heldAt b v .packet .term ≡ b .capture .term = term-at (heldAt b v) (j .held v) (y .held) in
       let w = l .held v (x .held) (omega (arith, e, x .term, y .term)) in
@@ -109,18 +111,23 @@ module _ {a b : Room} (i : Inv a) (j : Inv b) (l : Le a b) where
 
   pub holds : Holds b (b .network .slot) a b
   holds =
+      let nay = noesOf (b .conf) in
+      let before = value-held a i in
+      let present = value-held b j in
       record {
         fixed = refl;
         slot = refl;
         counts = first-total (b .network .nodes) (j .counts);
         logged = λ v k h m. record { there = omega (arith, l .logs v .longer); same = l .logs v .kept k m };
-        agreed = λ u v t x y. apart (noesOf (b .conf)) (sizeOf b) t (claimed b u t Committed j x) (claimed b v t Aborted j y);
-        committed = λ v t x. claimed b v t Committed j x;
-        aborted = λ v t x. claimed b v t Aborted j x;
+        agreed = λ u v t x y.
+            apart nay (sizeOf b) t (claimed b u t Committed j (present u t Committed x)) (claimed b v t Aborted j (present v t Aborted y));
+        committed = λ v t x. claimed b v t Committed j (present v t Committed x);
+        aborted = λ v t x. claimed b v t Aborted j (present v t Aborted x);
         commitFirm = λ v t f x y.
-            commit-rank f (up v t Committed f x y)
-            (λ e. apart (noesOf (b .conf)) (sizeOf b) t (yes-later t (claimed a v t Committed i x)) (claimed b v t Aborted j (subst (HoldsPhase b v t) e y)));
-        abortFirm = λ v t f x y. abort-rank f (up v t Aborted f x y);
+            commit-rank f (up v t Committed f (before v t Committed x) (present v t f y))
+            (λ e. apart nay (sizeOf b) t (yes-later t (claimed a v t Committed i (before v t Committed x)))
+            (claimed b v t Aborted j (subst (HoldsValue b v t) e (present v t f y))));
+        abortFirm = λ v t f x y. abort-rank f (up v t Aborted f (before v t Aborted x) (present v t f y));
       }
 
 -- the same of the room as it was opened, since nothing fixed has changed

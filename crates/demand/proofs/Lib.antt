@@ -1,3 +1,4 @@
+pub mod Values
 pub mod Demand
 pub mod Texts
 pub mod Resting

@@ -9,17 +9,10 @@ use Rattle.loops.specs.Pick.{either}
 use Rattle.room.specs.declared.room.Room.{Room}
 use Rattle.room.specs.Rooms.{proposeOf, captureOf, pipelineOf}
 use Rattle.room.specs.Slots.{captureSlots, pipelineSlots}
+use Rattle.readings.specs.Calls.{Reading}
 
--- which reading, and of which position, transaction or place
-pub data Reading : Type 0 where
-  ofRoom : Reading
-  ofPosition : ℕ → Reading
-  ofText : ℕ → List ℕ → Reading
-  ofLog : ℕ → ℕ → Reading
-  ofPending : ℕ → ℕ → Reading
-  ofRecord : ℕ → Reading
-
--- a call and its arguments: words and cursor, the buffer of rows and how many of it are used
+-- A call and its arguments: words and cursor, the buffer of rows and how many of it are used; a reading is any of those of
+-- readings specs/Calls, whose answers stand there. These are all the calls that a room has.
 pub data Call : Type 0 where
   Propose : (position : ℕ) → Call
   CaptureRound : (words : List ℕ) (cursor : ℕ) (rows : List ℕ) (used : ℕ) → Call

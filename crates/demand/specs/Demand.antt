@@ -1,12 +1,17 @@
 -- Demand 3: one statement over lists of a room's calls. Assumes nothing: it is proved in proofs/Demand.antt.
 use mathlib.Core.Path.{_≡_}
-use mathlib.Core.List.{List, List·Memᴰ}
+use mathlib.Core.List.{List, [], List·Memᴰ}
 use Prim.Native.Nat.{ℕ, _*_, _<_, _^_}
-use lib.ListN.{getD, take}
+use lib.ListN.{length, getD, take}
 use Rattle.merges.specs.Sound.{AllYes, SomeNo}
 use Rattle.packets.specs.declared.TwoPcPhase.{TwoPcPhase}
-use Rattle.packets.specs.declared.TwoPcPhase.the-variants.{Prepare, Committed, Aborted}
-use Rattle.merges.specs.declared.merging.Held.the-variants.{Packet}
+use Rattle.packets.specs.declared.TwoPcPhase.the-variants.{Committed, Aborted}
+use Rattle.packets.specs.declared.CeTwoPcPacket.{CeTwoPcPacket}
+use Rattle.packets.specs.declared.CeRead.{CeRead}
+use Rattle.packets.specs.Packets.{ceText}
+use Rattle.packets.specs.Reading.{ceRead}
+use Rattle.merges.specs.declared.merging.Held.{Held}
+use Rattle.merges.specs.declared.merging.Held.the-variants.{Empty, Unreadable, Packet}
 use Rattle.engines.specs.Nodes.{total}
 use Rattle.pipeline.specs.Pending.{noEntry}
 use Rattle.pipeline.specs.Pipeline.{noState}
@@ -27,13 +32,28 @@ pub record Logged (a b : TxLog) (k : ℕ) : Type 0 where
   pub there : k < b .len
   pub same : getD (b .entries) k noEntry ≡ getD (a .entries) k noEntry
 
--- Position v holds phase f for term t. An empty one holds none; nor does any position of a pipeline room.
+-- the text of a packet that is held; of what is no packet there is none
+abbrev pub textIn : CeTwoPcPacket → Held → List ℕ
+textIn p Empty = []
+textIn p Unreadable = []
+textIn p Packet = ceText p
+
+-- The text of what position v of a capture room holds. It is what the reading `packet_text` writes (specs/Texts).
+abbrev pub heldText : Room → ℕ → List ℕ
+heldText r v = textIn (heldAt r v .packet) (heldAt r v .held)
+
+-- what the reader of packets makes of the whole of it
+abbrev pub heldRead : Room → ℕ → CeRead
+heldRead r v = ceRead (heldText r v) (length (heldText r v))
+
+-- Position v holds phase f for term t: its text is accepted by the reader of packets, and gives both. An empty text is not
+-- accepted, so an empty position holds none; nor does any position of a pipeline room.
 pub record HoldsPhase (r : Room) (v t : ℕ) (f : TwoPcPhase) : Type 0 where
   pub kind : r .conf .kind ≡ kinds.Capture
   pub position : v < sizeOf r
-  pub held : heldAt r v .held ≡ Packet
-  pub term : heldAt r v .packet .term ≡ t
-  pub phase : heldAt r v .packet .phase ≡ f
+  pub accepted : heldRead r v .refusal ≡ 0
+  pub term : heldRead r v .packet .term ≡ t
+  pub phase : heldRead r v .packet .phase ≡ f
 
 -- all votes of the room's positions for term t are yes; one or more are no
 abbrev pub AllVoteYes : Room → ℕ → Type 0

@@ -1,52 +1,35 @@
--- Demand 3 in terms of texts, by document 01, demand 3's paragraph: what a position holds is what its packet's text gives when it is read; an empty text gives nothing.
--- Assumes nothing: these are definitions and statements. They are proved in proofs/Texts.antt.
+-- What demand 3 says by texts, in two other ways: by what the room holds, and by what a reading hands out.
+-- Assumes nothing: these are statements. They are proved in proofs/Texts.antt.
 use mathlib.Core.Path.{_≡_}
-use mathlib.Core.List.{List, [], List·Memᴰ}
+use mathlib.Core.List.{List, List·Memᴰ}
 use Prim.Native.Nat.{ℕ, _≤_, _<_, _^_}
 use lib.ListN.{length, take}
-use Rattle.packets.specs.Packets.{ceText}
-use Rattle.packets.specs.Reading.{ceRead}
 use Rattle.packets.specs.declared.TwoPcPhase.{TwoPcPhase}
-use Rattle.packets.specs.declared.TwoPcPhase.the-variants.{Committed, Aborted}
-use Rattle.packets.specs.declared.CeTwoPcPacket.{CeTwoPcPacket}
-use Rattle.packets.specs.declared.CeRead.{CeRead}
-use Rattle.merges.specs.declared.merging.Held.{Held}
-use Rattle.merges.specs.declared.merging.Held.the-variants.{Empty, Unreadable, Packet}
+use Rattle.merges.specs.declared.merging.Held.the-variants.{Packet}
 use Rattle.room.specs.declared.room.RoomKind.the-variants as kinds
 use Rattle.room.specs.declared.room.Room.{Room}
 use Rattle.room.specs.declared.room.Asked.{Asked}
 use Rattle.room.specs.Rooms.{sizeOf, heldAt, openOf}
 use Rattle.readings.specs.Readings.{textOf, textLeft}
-use Rattle.demand.specs.Calls.{Call, after, moments}
-use Rattle.demand.specs.Demand.{HoldsPhase, AllVoteYes, SomeVoteNo}
+use Rattle.demand.specs.Calls.{Call, moments}
+use Rattle.demand.specs.Demand.{heldText, HoldsPhase}
 
--- the text of a packet that is held; of what is no packet there is none
-abbrev pub textIn : CeTwoPcPacket → Held → List ℕ
-textIn p Empty = []
-textIn p Unreadable = []
-textIn p Packet = ceText p
-
-abbrev pub heldText : Room → ℕ → List ℕ
-heldText r v = textIn (heldAt r v .packet) (heldAt r v .held)
-
--- what the reader of packets makes of the whole of it
-abbrev pub heldRead : Room → ℕ → CeRead
-heldRead r v = ceRead (heldText r v) (length (heldText r v))
-
--- The text of position v of a capture room is accepted by the reader, and gives term t and phase f.
-pub record GivesPhase (r : Room) (v t : ℕ) (f : TwoPcPhase) : Type 0 where
+-- by value: what position v of a capture room holds is a packet of term t and phase f
+pub record HoldsValue (r : Room) (v t : ℕ) (f : TwoPcPhase) : Type 0 where
   pub kind : r .conf .kind ≡ kinds.Capture
   pub position : v < sizeOf r
-  pub accepted : heldRead r v .refusal ≡ 0
-  pub term : heldRead r v .packet .term ≡ t
-  pub phase : heldRead r v .packet .phase ≡ f
+  pub held : heldAt r v .held ≡ Packet
+  pub term : heldAt r v .packet .term ≡ t
+  pub phase : heldAt r v .packet .phase ≡ f
 
--- What a text gives and what demand 3 calls held are the same. The last two are of the reading of a position's text: where the longest text has room,
--- it answers with no refusal, and what it writes is the text meant here.
+-- A position holds a phase for a term, by its text, exactly if the packet that it holds has both. The last two are of the
+-- reading of a position's text: where the longest text has room, it answers with no refusal, and what it writes is the
+-- text that demand 3 means.
 pub record SameTexts (r : Room) : Type 0 where
-  pub holds : (v t : ℕ) (f : TwoPcPhase) → GivesPhase r v t f → HoldsPhase r v t f
-  pub gives : (v t : ℕ) (f : TwoPcPhase) → HoldsPhase r v t f → GivesPhase r v t f
-  pub answers : (v : ℕ) (out : List ℕ) → r .conf .kind ≡ kinds.Capture → v < sizeOf r → 596 ≤ length out → textOf r v out .refusal ≡ 0
+  pub value : (v t : ℕ) (f : TwoPcPhase) → HoldsPhase r v t f → HoldsValue r v t f
+  pub text : (v t : ℕ) (f : TwoPcPhase) → HoldsValue r v t f → HoldsPhase r v t f
+  pub answers : (v : ℕ) (out : List ℕ) → r .conf .kind ≡ kinds.Capture → v < sizeOf r → 596 ≤ length out
+      → textOf r v out .refusal ≡ 0
   pub writes : (v : ℕ) (out : List ℕ) → r .conf .kind ≡ kinds.Capture → v < sizeOf r → 596 ≤ length out
       → take (textOf r v out .len) (textLeft r v out) ≡ heldText r v
 
@@ -56,17 +39,3 @@ TextsGive =
     (asked : Asked) → asked .term < 2 ^ 64 → openOf asked .refusal ≡ 0
     → (calls : List Call) (a : Room) → List·Memᴰ a (moments calls (openOf asked .room))
     → SameTexts a
-
--- Demand 3's clauses on phases, of what the texts give: the room was opened as o, a is an earlier moment and b is the present one.
-pub record TextsHold (o a b : Room) : Type 0 where
-  pub agreed : (u v t : ℕ) → GivesPhase b u t Committed → GivesPhase b v t Aborted → ⊥
-  pub committed : (v t : ℕ) → GivesPhase b v t Committed → AllVoteYes o t
-  pub aborted : (v t : ℕ) → GivesPhase b v t Aborted → SomeVoteNo o t
-  pub commitFirm : (v t : ℕ) (f : TwoPcPhase) → GivesPhase a v t Committed → GivesPhase b v t f → f ≡ Committed
-  pub abortFirm : (v t : ℕ) (f : TwoPcPhase) → GivesPhase a v t Aborted → GivesPhase b v t f → f ≡ Aborted
-
-abbrev pub Demand3Texts : Type 0
-Demand3Texts =
-    (asked : Asked) → asked .term < 2 ^ 64 → openOf asked .refusal ≡ 0
-    → (calls : List Call) (a : Room) → List·Memᴰ a (moments calls (openOf asked .room))
-    → TextsHold (openOf asked .room) a (after calls (openOf asked .room))
