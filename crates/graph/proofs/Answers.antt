@@ -12,7 +12,7 @@ use Rattle.marks.specs.Marks.{has, allOf}
 use Rattle.graph.specs.declared.network.NetworkGraph.{NetworkGraph}
 use Rattle.graph.specs.declared.network.Topology.the-variants.{FullMesh, Line, Ring, Grid, Tree}
 use Rattle.loops.specs.Pick.{either}
-use Rattle.graph.specs.Links.{accepted, refused, isSize, builtOf, linkOf, gridOf, plainOf, topologyOf, inside, rowsOf, graphRefusal, positionRefusal, rowOf, listOf, neighborsOf, linked, testOf}
+use Rattle.graph.specs.Links.{accepted, refused, isSize, builtOf, linkOf, gridOf, plainOf, topologyOf, inside, rowsOf, graphRefusal, nodeRefusal, rowOf, listOf, neighborsOf, linked, testOf}
 use Rattle.graph.specs.Paths.{diameterOf, lengthOf}
 
 -- 1 to 64 positions
@@ -97,7 +97,7 @@ module _ (g : NetworkGraph) where
   graph-links e f = rw (e, f)
 
 -- one position
-module _ (g : NetworkGraph) (i k : ℕ) (is : k ≡ positionRefusal (g .n) i) where
+module _ (g : NetworkGraph) (i k : ℕ) (is : k ≡ nodeRefusal g i) where
   pub row-refused : (k ≡ 0 → ⊥) → record { refusal = k; marks = 0 } ≡ rowOf g i
   unfolding rowOf
   row-refused h = rw (← is, ne-eqb k 0 h)
@@ -126,10 +126,10 @@ unfolding linked
 linked-row g i j h l = rw (lt-ltb i (g .n) h, lt-ltb j (g .n) l)
 
 -- the diameter
-pub length-size : (g : NetworkGraph) → isSize (g .n) ≡ false → record { refusal = badPositions; links = 0 } ≡ lengthOf g
+pub length-refused : (g : NetworkGraph) (k : ℕ) → k ≡ graphRefusal g → (k ≡ 0 → ⊥) → record { refusal = k; links = 0 } ≡ lengthOf g
 unfolding lengthOf
-length-size g e = rw e
+length-refused g k e h = rw (← e, ne-eqb k 0 h)
 
-pub length-given : (g : NetworkGraph) (d : ℕ) → isSize (g .n) ≡ true → d ≡ diameterOf g → record { refusal = 0; links = d } ≡ lengthOf g
+pub length-given : (g : NetworkGraph) (d : ℕ) → graphRefusal g ≡ 0 → d ≡ diameterOf g → record { refusal = 0; links = d } ≡ lengthOf g
 unfolding lengthOf
 length-given g d e f = rw (e, f)

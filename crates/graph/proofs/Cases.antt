@@ -1,16 +1,16 @@
 -- The rules computed: some of the Rust's answers, and what 01 says of small rings. Assumes nothing.
 use mathlib.Core.Path.{_≡_, refl}
-use mathlib.Core.Bool.{Bool, true, false, _&&_}
+use mathlib.Core.Bool.{Bool, true, false, not, _&&_, _||_}
 use mathlib.Core.List.{[], _∷_}
-use Prim.Native.Nat.{ℕ}
+use Prim.Native.Nat.{ℕ, _<_}
 use lib.Dec.{ltb}
 use lib.ListN.{getD, take}
 use borrow.Author.Tests.{ltb-true}
 use Rattle.loops.specs.Table.{filled, tabulate, filled-at}
 use Rattle.marks.specs.Marks.{has, marks, anyOf}
-use Rattle.marks.specs.Sets.{has-marks}
+use Rattle.marks.specs.Sets.{all-found, has-marks}
 use Rattle.graph.specs.declared.network.Topology.the-variants.{FullMesh, Line, Ring, Grid, Tree}
-use Rattle.graph.specs.Links.{graphBy, linked, linkOf, aheadOf, meshRule, nextRule, ringRule, gridRule, treeRule}
+use Rattle.graph.specs.Links.{isSize, graphBy, inside, graphRefusal, linked, linkOf, aheadOf, meshRule, nextRule, ringRule, gridRule, treeRule}
 use Rattle.graph.specs.Paths.{diameterOf}
 
 -- A graph that is built by a rule has just the links of the rule.
@@ -25,6 +25,25 @@ built-links n link i j = go (ltb i n) refl
     go : (t : Bool) → ltb i n ≡ t → ((t && ltb j n) && has (getD (filled 0 64 n (λ k. marks n (link k))) i 0) j) ≡ ((t && ltb j n) && link i j)
     go true e = rw (filled-at 0 64 n (λ k. marks n (link k)) i 0 (ltb-true i n e), has-marks n (link i) j) (and-self (ltb j n) (link i j))
     go false e = refl
+
+-- .. and is refused by no call and no opening.
+below : (a b : Bool) → (not (a && b) || a) ≡ true
+below true true = refl
+below true false = refl
+below false b = refl
+
+marks-inside : (n : ℕ) (f : ℕ → Bool) → inside n (marks n f) ≡ true
+unfolding inside
+marks-inside n f =
+    all-found 64 (λ j. not (has (marks n f) j) || ltb j n) (λ j h. rw (has-marks n f j) (below (ltb j n) (f j)))
+
+pub built-accepted : (n : ℕ) (link : ℕ → ℕ → Bool) → isSize n ≡ true → graphRefusal (graphBy n link) ≡ 0
+unfolding graphRefusal graphBy
+built-accepted n link e =
+    let rows = filled 0 64 n (λ i. marks n (link i)) in
+    let fit : (i : ℕ) → i < n → inside n (getD rows i 0) ≡ true =
+    λ i h. rw (filled-at 0 64 n (λ k. marks n (link k)) i 0 h) (marks-inside n (link i)) in
+    rw (e, all-found n (λ i. inside n (getD rows i 0)) fit)
 
 -- A ring of one and of two are lines.
 pub small-rings : (graphBy 1 (linkOf Ring 1) ≡ graphBy 1 (linkOf Line 1)) × (graphBy 2 (linkOf Ring 2) ≡ graphBy 2 (linkOf Line 2))

@@ -20,7 +20,7 @@ use Rattle.marks.specs.Laws.{has-none}
 use Rattle.graph.specs.declared.network.NetworkGraph.{NetworkGraph}
 use Rattle.graph.specs.declared.network.NeighborList.{NeighborList}
 use Rattle.graph.specs.declared.network.Topology.{Topology}
-use Rattle.graph.specs.Links.{treeRule, gridRule, nextRule, linkOf, graphBy, builtOf, plainOf, accepted, refused, inside, listOf, positionRefusal, pairRefusal}
+use Rattle.graph.specs.Links.{treeRule, gridRule, nextRule, linkOf, graphBy, builtOf, plainOf, accepted, refused, inside, listOf, graphRefusal, nodeRefusal, pairRefusal}
 
 pub eqb-iff : (a b c d : ℕ) → (a ≡ b → c ≡ d) → (c ≡ d → a ≡ b) → eqb a b ≡ eqb c d
 eqb-iff a b c d f g = iff (eqb a b) (eqb c d) (λ e. eq-eqb c d (f (eqb-true a b e))) (λ e. eq-eqb a b (g (eqb-true c d e)))
@@ -141,50 +141,63 @@ pub list-room : (m j : ℕ) (l : NeighborList) → l ≡ listOf m j → l .count
 unfolding listOf
 list-room m j l e = rw e (omega (arith, members-count m j, count-le m j))
 
--- refusals 2 and 8, as the code tests them
-module _ (n i : ℕ) where
-  pub position-none : n ≡ 0 → badPositions ≡ positionRefusal n i
-  unfolding positionRefusal
-  position-none e = rw (le-ltb 0 n (omega arith))
-
-  pub position-many : 0 < n → 64 < n → badPositions ≡ positionRefusal n i
-  unfolding positionRefusal
-  position-many h l = rw (lt-ltb 0 n h, lt-leb n 64 l)
-
-  pub position-far : 0 < n → n ≤ 64 → n ≤ i → noPosition ≡ positionRefusal n i
-  unfolding positionRefusal
-  position-far h l k = rw (lt-ltb 0 n h, le-leb n 64 l, le-ltb i n k)
-
-  pub position-ok : 0 < n → n ≤ 64 → i < n → 0 ≡ positionRefusal n i
-  unfolding positionRefusal
-  position-ok h l k = rw (lt-ltb 0 n h, le-leb n 64 l, lt-ltb i n k)
-
-  -- what it means that there is none
-  pub position-parts : positionRefusal n i ≡ 0 → (n ≤ 64) × (i < n)
-  unfolding positionRefusal
-  position-parts e = go (ltb 0 n) (leb n 64) refl (ltb i n) refl e
+-- refusals 2, 3 and 8, as the code tests them
+module _ (g : NetworkGraph) where
+  -- what it means that the graph has none
+  pub graph-parts : graphRefusal g ≡ 0 → (0 < g .n) × (g .n ≤ 64)
+  unfolding graphRefusal
+  graph-parts e = go (ltb 0 (g .n)) refl (leb (g .n) 64) refl _ e
     where
-      go : (a b : Bool) → leb n 64 ≡ b → (c : Bool) → ltb i n ≡ c → _≡_ {A = ℕ} (either (a && b) (either c 0 noPosition) badPositions) 0 → (n ≤ 64) × (i < n)
-      go true true p true q e = (leb-true n 64 p, ltb-true i n q)
-      go true true p false q e = absurd (omega arith)
-      go true false p c q e = absurd (omega arith)
-      go false b p c q e = absurd (omega arith)
+      go : (a : Bool) → ltb 0 (g .n) ≡ a → (b : Bool) → leb (g .n) 64 ≡ b → (t : ℕ)
+          → _≡_ {A = ℕ} (either (a && b) t badPositions) 0 → (0 < g .n) × (g .n ≤ 64)
+      go true p true q t e = (ltb-true 0 (g .n) p, leb-true (g .n) 64 q)
+      go true p false q t e = absurd (omega arith)
+      go false p b q t e = absurd (omega arith)
 
-pub pair-first : (n i j r : ℕ) → r ≡ positionRefusal n i → (r ≡ 0 → ⊥) → r ≡ pairRefusal n i j
-unfolding pairRefusal
-pair-first n i j r e h = e ∙ sym (ap (λ (t : Bool). either t (positionRefusal n j) (positionRefusal n i)) (ne-eqb (positionRefusal n i) 0 (λ f. h (e ∙ f))))
+  module _ (i : ℕ) where
+    pub node-refused : (r : ℕ) → r ≡ graphRefusal g → (r ≡ 0 → ⊥) → r ≡ nodeRefusal g i
+    unfolding nodeRefusal
+    node-refused r e h = rw (← e, ne-eqb r 0 h)
 
-pub pair-second : (n i j r : ℕ) → positionRefusal n i ≡ 0 → r ≡ positionRefusal n j → r ≡ pairRefusal n i j
-unfolding pairRefusal
-pair-second n i j r h e = e ∙ sym (ap (λ (t : Bool). either t (positionRefusal n j) (positionRefusal n i)) (eq-eqb (positionRefusal n i) 0 h))
+    pub node-far : graphRefusal g ≡ 0 → g .n ≤ i → noPosition ≡ nodeRefusal g i
+    unfolding nodeRefusal
+    node-far e h = rw (e, le-ltb i (g .n) h)
 
-pub pair-parts : (n i j : ℕ) → pairRefusal n i j ≡ 0 → (n ≤ 64) × (i < n) × (j < n)
-unfolding pairRefusal
-pair-parts n i j e = go (eqb (positionRefusal n i) 0) refl e
-  where
-    go : (t : Bool) → eqb (positionRefusal n i) 0 ≡ t → either t (positionRefusal n j) (positionRefusal n i) ≡ 0 → (n ≤ 64) × (i < n) × (j < n)
-    go true p f = let a = position-parts n i (eqb-true (positionRefusal n i) 0 p) in let b = position-parts n j f in (a .0, a .1, b .1)
-    go false p f = absurd (eqb-false (positionRefusal n i) 0 p f)
+    pub node-ok : graphRefusal g ≡ 0 → i < g .n → 0 ≡ nodeRefusal g i
+    unfolding nodeRefusal
+    node-ok e h = rw (e, lt-ltb i (g .n) h)
+
+    -- what it means that the call has none
+    pub node-parts : nodeRefusal g i ≡ 0 → (g .n ≤ 64) × (i < g .n)
+    unfolding nodeRefusal
+    node-parts e = go (eqb (graphRefusal g) 0) refl (ltb i (g .n)) refl e
+      where
+        go : (a : Bool) → eqb (graphRefusal g) 0 ≡ a → (b : Bool) → ltb i (g .n) ≡ b
+            → either a (either b 0 noPosition) (graphRefusal g) ≡ 0 → (g .n ≤ 64) × (i < g .n)
+        go true p true q f = (graph-parts (eqb-true (graphRefusal g) 0 p) .1, ltb-true i (g .n) q)
+        go true p false q f = absurd (omega arith)
+        go false p b q f = absurd (eqb-false (graphRefusal g) 0 p f)
+
+  module _ (i j : ℕ) where
+    pub pair-first : (r : ℕ) → r ≡ nodeRefusal g i → (r ≡ 0 → ⊥) → r ≡ pairRefusal g i j
+    unfolding pairRefusal
+    pair-first r e h = rw (← e, ne-eqb r 0 h)
+
+    pub pair-second : (r : ℕ) → nodeRefusal g i ≡ 0 → r ≡ nodeRefusal g j → r ≡ pairRefusal g i j
+    unfolding pairRefusal
+    pair-second r h e = rw (h, e)
+
+    pub pair-parts : pairRefusal g i j ≡ 0 → (g .n ≤ 64) × (i < g .n) × (j < g .n)
+    unfolding pairRefusal
+    pair-parts e = go (eqb (nodeRefusal g i) 0) refl e
+      where
+        go : (t : Bool) → eqb (nodeRefusal g i) 0 ≡ t → either t (nodeRefusal g j) (nodeRefusal g i) ≡ 0
+            → (g .n ≤ 64) × (i < g .n) × (j < g .n)
+        go true p f =
+            let a = node-parts i (eqb-true (nodeRefusal g i) 0 p) in
+            let b = node-parts j f in
+            (a .0, a .1, b .1)
+        go false p f = absurd (eqb-false (nodeRefusal g i) 0 p f)
 
 -- a topology that takes no argument
 pub plain-refused : (t : Topology) (n argument : ℕ) → (argument ≡ 0 → ⊥) → refused badLinks ≡ plainOf t n argument

@@ -118,14 +118,18 @@ rowsOf rows =
 unfoldable pub graphRefusal : NetworkGraph → ℕ
 graphRefusal g = either (isSize (g .n)) (either (allOf (g .n) (λ i. inside (g .n) (getD (g .adj) i 0))) 0 badLinks) badPositions
 
--- Refusals 2 and 8 of a call on one position of a graph, whose numbers may be any.
+-- Refusals 2 and 8 of a call on position i of n.
 unfoldable pub positionRefusal : ℕ → ℕ → ℕ
 positionRefusal n i = either (isSize n) (either (ltb i n) 0 noPosition) badPositions
+
+-- Refusals 2, 3 and 8 of a call on one position of a graph, whose numbers may be any.
+unfoldable pub nodeRefusal : NetworkGraph → ℕ → ℕ
+nodeRefusal g i = either (eqb (graphRefusal g) 0) (either (ltb i (g .n)) 0 noPosition) (graphRefusal g)
 
 -- the row of a position
 unfoldable pub rowOf : NetworkGraph → ℕ → NeighborRow
 rowOf g i =
-    let k = positionRefusal (g .n) i in
+    let k = nodeRefusal g i in
     either (eqb k 0) (record { refusal = 0; marks = getD (g .adj) i 0 }) (record { refusal = k; marks = 0 })
 
 -- the neighbours of a position in rising order, how many there are, and zeros behind them
@@ -134,7 +138,7 @@ listOf m n = record { refusal = 0; count = length (members m n); at = sets (repl
 
 unfoldable pub neighborsOf : NetworkGraph → ℕ → NeighborList
 neighborsOf g i =
-    let k = positionRefusal (g .n) i in
+    let k = nodeRefusal g i in
     either (eqb k 0) (listOf (getD (g .adj) i 0) 64) (record { refusal = k; count = 0; at = replicate 64 0 })
 
 -- Position i has a link to position j: both are positions of the graph, and i's row has j's mark.
@@ -142,8 +146,8 @@ unfoldable pub linked : NetworkGraph → ℕ → ℕ → Bool
 linked g i j = (ltb i (g .n) && ltb j (g .n)) && has (getD (g .adj) i 0) j
 
 -- the refusal of a call on two positions, and the answer of a test where there is none
-unfoldable pub pairRefusal : ℕ → ℕ → ℕ → ℕ
-pairRefusal n i j = either (eqb (positionRefusal n i) 0) (positionRefusal n j) (positionRefusal n i)
+unfoldable pub pairRefusal : NetworkGraph → ℕ → ℕ → ℕ
+pairRefusal g i j = either (eqb (nodeRefusal g i) 0) (nodeRefusal g j) (nodeRefusal g i)
 
 abbrev pub testOf : ℕ → Bool → LinkTest
 testOf k t = either (eqb k 0) (record { refusal = 0; holds = t }) (record { refusal = k; holds = false })

@@ -10,7 +10,7 @@ use Rattle.marks.specs.Marks.{has, marks, anyOf}
 use Rattle.graph.specs.declared.network.NetworkGraph.{NetworkGraph}
 use Rattle.graph.specs.declared.network.LinkTest.{LinkTest}
 use Rattle.graph.specs.declared.network.PathLength.{PathLength}
-use Rattle.graph.specs.Links.{linked, isSize, pairRefusal, testOf}
+use Rattle.graph.specs.Links.{linked, graphRefusal, pairRefusal, testOf}
 
 -- A path from i to j of k links: from a position to itself by no link, and onward by one link more.
 pub data Path (g : NetworkGraph) (i : ℕ) : ℕ → ℕ → Type 0 where
@@ -49,16 +49,16 @@ unfoldable pub diameterOf : NetworkGraph → ℕ
 unfolding farthest upto
 diameterOf g = upto (g .n) (λ i d. max d (farthest g i (g .n))) 0
 
--- Refusal 2: the graph has no size that a graph may have.
+-- or the refusal of the graph
 unfoldable pub lengthOf : NetworkGraph → PathLength
 lengthOf g =
-    either (isSize (g .n))
+    either (eqb (graphRefusal g) 0)
     (record { refusal = 0; links = diameterOf g })
-    (record { refusal = badPositions; links = 0 })
+    (record { refusal = graphRefusal g; links = 0 })
 
 -- Some path leads from i to j: it is found within n links, if there is one.
 unfoldable pub reachesOf : NetworkGraph → ℕ → ℕ → LinkTest
-reachesOf g i j = testOf (pairRefusal (g .n) i j) (has (reached g i (g .n)) j)
+reachesOf g i j = testOf (pairRefusal g i j) (has (reached g i (g .n)) j)
 
 unfoldable pub hasLinkOf : NetworkGraph → ℕ → ℕ → LinkTest
-hasLinkOf g i j = testOf (pairRefusal (g .n) i j) (linked g i j)
+hasLinkOf g i j = testOf (pairRefusal g i j) (linked g i j)

@@ -10,7 +10,7 @@ ghost use Rattle.loops.specs.Pick.{either};
 ghost use Rattle.loops.specs.Table.{filled};
 ghost use Rattle.marks.specs.Marks.{has, marks, anyOf, allOf};
 ghost use Rattle.graph.specs.declared.network.Topology.the-variants.{FullMesh, Line, Ring, Tree};
-ghost use Rattle.graph.specs.Links.{graphBy, builtOf, noGraph, aheadOf, linkOf, ringRule, gridRule, treeRule, gridOf, topologyOf, plainOf, inside, rowsOf, graphRefusal, positionRefusal, pairRefusal, rowOf, listOf, neighborsOf};
+ghost use Rattle.graph.specs.Links.{graphBy, builtOf, noGraph, aheadOf, linkOf, ringRule, gridRule, treeRule, gridOf, topologyOf, plainOf, inside, rowsOf, graphRefusal, nodeRefusal, pairRefusal, rowOf, listOf, neighborsOf};
 ghost use Rattle.graph.specs.Paths.{Longest, reached, diameterOf, lengthOf, hasLinkOf, reachesOf};
 ghost use Rattle.graph.specs.Waves.{Stepped, Swept};
 use super::sets;
@@ -264,30 +264,28 @@ fn plain(t: Topology, n: usize, argument: usize) -> Built
     build(t, n)
 }
 
-// Refusals 2 and 8 of a call on position i of n.
-fn position_refusal(n: usize, i: usize) -> u64
-    ensures { λ r. ⌜ r ≡ positionRefusal n i ⌝ }
+// Refusals 2, 3 and 8 of a call on position i of a graph that somebody may have put together by hand.
+fn node_refusal(g: NetworkGraph, i: usize) -> u64
+    ensures { λ r. ⌜ r ≡ nodeRefusal g i ⌝ }
 {
-    if n == 0 {
-        return refusals::BAD_POSITIONS;
+    let refusal = g.refusal();
+    if refusal != 0 {
+        return refusal;
     }
-    if n > limits::POSITIONS {
-        return refusals::BAD_POSITIONS;
-    }
-    if i >= n {
+    if i >= g.n {
         return refusals::NO_POSITION;
     }
     0
 }
 
-fn pair_refusal(n: usize, i: usize, j: usize) -> u64
-    ensures { λ r. ⌜ r ≡ pairRefusal n i j ⌝ }
+fn pair_refusal(g: NetworkGraph, i: usize, j: usize) -> u64
+    ensures { λ r. ⌜ r ≡ pairRefusal g i j ⌝ }
 {
-    let first = position_refusal(n, i);
+    let first = node_refusal(g, i);
     if first != 0 {
         return first;
     }
-    position_refusal(n, j)
+    node_refusal(g, j)
 }
 
 // The list with j behind its entries, if m has mark j.
@@ -543,7 +541,7 @@ impl NetworkGraph {
     pub fn row(self, i: usize) -> NeighborRow
         ensures { λ r. ⌜ r ≡ rowOf self i ⌝ }
     {
-        let refusal = position_refusal(self.n, i);
+        let refusal = node_refusal(self, i);
         if refusal != 0 {
             return NeighborRow { refusal, marks: 0 };
         }
@@ -558,7 +556,7 @@ impl NetworkGraph {
     pub fn neighbors(self, i: usize) -> NeighborList
         ensures { λ r. ⌜ r ≡ neighborsOf self i ⌝ }
     {
-        let refusal = position_refusal(self.n, i);
+        let refusal = node_refusal(self, i);
         if refusal != 0 {
             return NeighborList {
                 refusal,
@@ -574,7 +572,7 @@ impl NetworkGraph {
     pub fn has_link(self, i: usize, j: usize) -> LinkTest
         ensures { λ r. ⌜ r ≡ hasLinkOf self i j ⌝ }
     {
-        let refusal = pair_refusal(self.n, i, j);
+        let refusal = pair_refusal(self, i, j);
         if refusal != 0 {
             return LinkTest {
                 refusal,
@@ -593,7 +591,7 @@ impl NetworkGraph {
         ensures { λ r. ⌜ r ≡ reachesOf self i j ⌝ }
     {
         let n = self.n;
-        let refusal = pair_refusal(n, i, j);
+        let refusal = pair_refusal(self, i, j);
         if refusal != 0 {
             return LinkTest {
                 refusal,
@@ -612,19 +610,11 @@ impl NetworkGraph {
         ensures { λ r. ⌜ r ≡ lengthOf self ⌝ }
         ensures { λ r. ⌜ (r .refusal ≡ 0 → Longest self (r .links)) ⌝ }
     {
+        let refusal = self.refusal();
+        if refusal != 0 {
+            return PathLength { refusal, links: 0 };
+        }
         let n = self.n;
-        if n == 0 {
-            return PathLength {
-                refusal: refusals::BAD_POSITIONS,
-                links: 0,
-            };
-        }
-        if n > limits::POSITIONS {
-            return PathLength {
-                refusal: refusals::BAD_POSITIONS,
-                links: 0,
-            };
-        }
         let adj = self.adj;
         PathLength {
             refusal: 0,

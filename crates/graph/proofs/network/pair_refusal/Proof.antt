@@ -8,6 +8,6 @@ pub pair-refusal-spec : {M : Type 1} → statement M
 pair-refusal-spec =
     tie.close (tie.spec
     (λ c κs. search needs)
-    (λ c. pair-first _ _ _ _ (c .before .position-refusal .ensures) (c .if1 .taken))
+    (λ c. pair-first _ _ _ _ (c .before .node-refusal .ensures) (c .if1 .taken))
     (λ c κs. search needs)
-    (λ c. pair-second _ _ _ _ (sym (c .before .before .position-refusal .ensures) ∙ c .before .if1 .left) (c .position-refusal2 .ensures)))
+    (λ c. pair-second _ _ _ _ (sym (c .before .before .node-refusal .ensures) ∙ c .before .if1 .left) (c .node-refusal2 .ensures)))

@@ -1,7 +1,8 @@
-use mathlib.Core.Path.{sym, subst}
+use mathlib.Core.Path.{sym, subst, _∙_}
 use native.Mathlib.Omega.{arith}
 use borrow.Author.Needs.{needs}
-use Rattle.graph.proofs.Answers.{length-size, length-given, size-none, size-many, size-ok}
+use Rattle.graph.proofs.Answers.{length-refused, length-given}
+use Rattle.graph.proofs.Rules.{graph-parts}
 use Rattle.graph.proofs.Distance.{diameter-longest}
 use Rattle.graph.specs.Paths.{Longest}
 use Rattle.graph.proofs.network.NetworkGraph.diameter.Statement.{statement}
@@ -9,10 +10,12 @@ use Rattle.graph.proofs.network.NetworkGraph.diameter.Tie as tie
 
 pub diameter-spec : {M : Type 1} → statement M
 diameter-spec = tie.close (tie.spec
-    (λ c. (length-size (c .before .args .self) (size-none _ (c .if1 .taken)), λ e. absurd (omega arith)))
-    (λ c. (length-size (c .before .before .args .self) (size-many _ (c .if2 .taken)), λ e. absurd (omega arith)))
     (λ c κs. search needs)
-    (λ c. let g = c .before .before .before .before .before .args .self in (
-      length-given g _ (size-ok (g .n) (omega arith) (omega arith)) (c .longest-path .ensures),
-      λ e. subst (Longest g) (sym (c .longest-path .ensures)) (diameter-longest g (omega arith)),
+    (λ c. (length-refused _ _ (c .before .refusal .ensures) (c .if1 .taken), λ e. absurd (c .if1 .taken e)))
+    (λ c κs. graph-parts _ (sym (c .before .before .before .refusal .ensures) ∙ c .before .before .if1 .left) .1)
+    (λ c.
+    let g = c .before .before .before .before .before .args .self in
+    let e = sym (c .before .before .before .before .refusal .ensures) ∙ c .before .before .before .if1 .left in (
+      length-given g _ e (c .longest-path .ensures),
+      λ _. subst (Longest g) (sym (c .longest-path .ensures)) (diameter-longest g (graph-parts g e .0)),
     )))
