@@ -33,7 +33,7 @@ ticks (CaptureRound ws cursor rows used) r = either (eqb (captureOf ws (length r
 ticks (PipelineRound ws cursor rows used) r = either (eqb (pipelineOf ws (length rows) used r cursor .refusal) 0) (pipelineSlots ws cursor r) []
 ticks (Read q) r = []
 
--- each call gets the room that the one before it handed back
+-- the room behind a list of calls, each made on what the call before it left
 unfoldable pub after : List Call → Room → Room
 after [] r = r
 after (c ∷ cs) r = after cs (handed c r)

@@ -48,7 +48,7 @@ settingsOf f =
       «slots_given» = not (eqb (f .slots) lastSlot);
     }
 
--- The start term is 0; row interval and slot bound are 2^32 - 1.
+-- A frame has no field for start term, row interval and slot bound: 0, and the last slot twice.
 unfoldable pub askedOf : Frame → NetworkGraph → Asked
 askedOf f g =
     record {
@@ -75,7 +75,7 @@ proposing conf v s =
 unfoldable pub capturing : List ℕ → RoomConf → Captured → Captured
 capturing ws conf s = capturePart ws rowCells (s .used) conf (s .network) (s .part) (s .cursor)
 
--- proposal k is made by position k mod n, and gets one round
+-- the positions take turns in proposing, and each proposal gets one round
 unfoldable pub captureTurn : List ℕ → RoomConf → ℕ → Captured → Captured
 captureTurn ws conf k s = unlessRefused (capturing ws conf) (unlessRefused (proposing conf (k % positionsOf conf)) s)
 

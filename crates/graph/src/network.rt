@@ -1,4 +1,5 @@
-// Ported from network.rs: who hears whom. A link from i to j says that j hears i; links may be one-way or to oneself.
+// Ported from network.rs: who hears whom. A link from i to j says that j hears i. It may have no counterpart,
+// and a position may hear itself.
 // Every call answers with 01's refusal number beside its value (0: none); a refused call's value is empty.
 ghost use mathlib.Core.Path.{_≡_};
 ghost use mathlib.Core.Bool.{_||_, _&&_};

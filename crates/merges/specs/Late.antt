@@ -1,4 +1,5 @@
--- Late frames, by change request 12: lists of proposals, and of deliveries of any packet that any position held at any earlier moment.
+-- Late frames, by change request 12: lists of proposals and of deliveries, where a delivery may bring whatever packet was
+-- held somewhere before.
 -- Assumes nothing: these are definitions and a statement, which proofs/Late.antt proves.
 use mathlib.Core.Path.{_≡_}
 use mathlib.Core.Bool.{Bool, true, false}

@@ -206,7 +206,7 @@ fn raise_all(at: [Node; 64], n: usize) -> [Node; 64]
     a
 }
 
-// The first round of a term that reaches the goal raises everybody's progress.
+// Progress rises by one for everybody, once for each term: when a round meets the goal for the first time.
 fn settle(conf: RoomConf, t: CapturePart, c: CeState) -> Network
     ensures { λ r. ⌜ r ≡ networkAfter conf t c ⌝ }
 {
