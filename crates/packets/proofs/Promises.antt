@@ -17,6 +17,7 @@ use Rattle.texts.specs.NumberLaws.{num-reads}
 use Rattle.texts.specs.ListLaws.{Every, none, more}
 use Rattle.texts.specs.Rfc8259.{Tree, Fields, Ws, Token, Chars, Str, Value, Members, Json}
 use Rattle.texts.specs.JsonLaws.{bare, number-of, chars, bool-value, treesOf, list-value}
+use Rattle.texts.proofs.Single.{single}
 use Rattle.packets.specs.Packets.{
   phaseText,
   bitmapText,
@@ -185,12 +186,18 @@ ce-json p =
 ce-short : (p : CeTwoPcPacket) → ValidCe p → length (ceText p) ≤ 596
 ce-short p v = omega (arith, ce-length p, decimal-word (p .term) (v .term-fits), phase-le (p .phase), data-short (p .«proposal_data») (v .bytes), bitmap-short (p .«flags_bitmap») (v .bitmap))
 
+ce-said : (s : List ℕ) → ceReadOf s .refusal ≡ 0 → Json s (ceValue (ceReadOf s .packet))
+ce-said s h =
+    subst (λ (t : List ℕ). Json t (ceValue (ceReadOf s .packet))) (sym (ce-given s h .0))
+    (ce-json (ceReadOf s .packet))
+
 pub ce-promises : CePromises
 ce-promises =
     record {
       json = ce-json;
       given = ce-given;
-      said = λ s h. subst (λ (t : List ℕ). Json t (ceValue (ceReadOf s .packet))) (sym (ce-given s h .0)) (ce-json (ceReadOf s .packet));
+      said = ce-said;
+      only = λ s w h j. single .text j (ce-said s h);
       back = λ p v. (ap (λ (r : CeRead). r .refusal) (ce-back p v), ap (λ (r : CeRead). r .packet) (ce-back p v));
       other = ce-other;
       one = λ p q v u e. ap (λ (r : CeRead). r .packet) (sym (ce-back p v) ∙ ap ceReadOf e ∙ ce-back q u);
@@ -281,12 +288,18 @@ pipeline-json p =
 pipeline-short : (p : TwoPcPacket) → ValidPipeline p → length (pipelineText p) ≤ 758
 pipeline-short p v = omega (arith, pipeline-length p, decimal-word (p .«transaction_id») (v .id-fits), phase-le (p .state), bitmap-short (p .«flags_bitmap») (v .bitmap), bool-le (p .«abort_flag»), decimal-word (p .«nack_tx_id») (v .nack-fits), data-short (p .«transaction_data») (v .bytes), decimal-word (p .sender) (v .sender-fits), tx-short (p .«piggyback_tx») (v .tx-fits), state-le (p .«piggyback_state»))
 
+pipeline-said : (s : List ℕ) → pipelineReadOf s .refusal ≡ 0 → Json s (pipelineValue (pipelineReadOf s .packet))
+pipeline-said s h =
+    subst (λ (t : List ℕ). Json t (pipelineValue (pipelineReadOf s .packet))) (sym (pipeline-given s h .0))
+    (pipeline-json (pipelineReadOf s .packet))
+
 pub pipeline-promises : PipelinePromises
 pipeline-promises =
     record {
       json = pipeline-json;
       given = pipeline-given;
-      said = λ s h. subst (λ (t : List ℕ). Json t (pipelineValue (pipelineReadOf s .packet))) (sym (pipeline-given s h .0)) (pipeline-json (pipelineReadOf s .packet));
+      said = pipeline-said;
+      only = λ s w h j. single .text j (pipeline-said s h);
       back = λ p v. (ap (λ (r : PipelineRead). r .refusal) (pipeline-back p v), ap (λ (r : PipelineRead). r .packet) (pipeline-back p v));
       other = pipeline-other;
       one = λ p q v u e. ap (λ (r : PipelineRead). r .packet) (sym (pipeline-back p v) ∙ ap pipelineReadOf e ∙ pipeline-back q u);

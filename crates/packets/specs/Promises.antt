@@ -27,6 +27,8 @@ pub record Promises
   pub given : (s : List ℕ) → refusal s ≡ 0 → (s ≡ text (packet s)) × Valid (packet s)
   -- so the text says what the packet has
   pub said : (s : List ℕ) → refusal s ≡ 0 → Json s (value (packet s))
+  -- and says nothing else: whatever value the grammar gives to a text that is read is that packet's
+  pub only : (s : List ℕ) (w : Tree) → refusal s ≡ 0 → Json s w → w ≡ value (packet s)
   -- a packet that was written is read back
   pub back : (p : P) → Valid p → (refusal (text p) ≡ 0) × (packet (text p) ≡ p)
   -- any other text is refused as 9

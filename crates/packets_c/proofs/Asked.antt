@@ -1,16 +1,36 @@
 -- The C entries' slices and answers in each case.
 -- Assumes nothing.
-use mathlib.Core.Path.{_≡_, refl, sym, ap, ap₂, _∙_}
-use mathlib.Core.Bool.{Bool, true, false}
+use mathlib.Core.Path.{_≡_, refl, sym, ap, _∙_}
+use mathlib.Core.Bool.{Bool, true}
 use mathlib.Core.List.{List}
-use Prim.Native.Nat.{ℕ, _≤_, _<_}
-use lib.Dec.{eqb}
-use borrow.Author.Tests.{eq-eqb, ne-eqb, le-leb, lt-leb}
+use Prim.Native.Nat.{ℕ, _+_, _^_, _≤_, _<_}
+use native.Mathlib.Omega.{arith}
+use lib.Dec.{leb, ltb}
+use lib.ListN.{length, take, drop, getD}
+use lib.Seq.{take-at}
+use lib.Pow.{pow-mono}
+use borrow.Author.Tests.{eq-eqb, ne-eqb, le-leb, lt-leb, lt-ltb, leb-true, ltb-true}
 use Rattle.limits.specs.Refusals.{noFit}
+use Rattle.marks.specs.Sets.{and-true, true-and}
 use Rattle.texts.specs.Put.{written, Put}
+use Rattle.packets.specs.Packets.{limits, ValidBitmap, ValidData}
 use Rattle.packets.specs.Reading.{ceNo, ceRead, pipelineNo, pipelineRead}
-use Rattle.packets.specs.Writing.{refused, wroteOf, leftOf}
-use Rattle.packets_c.specs.Console.{ceTold, pipelineTold, handed, askedWrote, askedLeft, nextOf}
+use Rattle.packets.specs.Writing.{wroteOf, leftOf}
+use Rattle.packets.proofs.Writes.{limits-true}
+use Rattle.packets_c.specs.Console.{
+  ceTold,
+  pipelineTold,
+  handed,
+  sizesFit,
+  ceFits,
+  piggybackFits,
+  pipelineFits,
+  askedWrote,
+  askedLeft,
+  nextOf,
+}
+use Rattle.packets.specs.declared.Bitmap.{Bitmap}
+use Rattle.packets.specs.declared.Data.{Data}
 use Rattle.packets.specs.declared.Wrote.{Wrote}
 
 -- refused: the slice is as it was; else it has the values in front
@@ -55,6 +75,64 @@ module _ (text : List ℕ) (len n b : ℕ) where
   pub pipeline-as-read : 12 ≤ n → 32 ≤ b → pipelineRead text len ≡ pipelineTold text len n b
   unfolding pipelineTold
   pipeline-as-read h k = rw (le-leb 12 n h, le-leb 32 b k)
+
+-- ---- texts and sizes
+
+-- what is written at the start of a buffer is read from there
+pub taken-back : (d t : List ℕ) → take (length t) (written d 0 t) ≡ t
+unfolding written
+taken-back d t = take-at t (drop (0 + length t) d) (length t) refl
+
+-- a valid packet is within the limits
+pub valid-sizes : {b : Bitmap} {d : Data} → ValidBitmap b → ValidData d → limits (b .len) (d .len) ≡ true
+unfolding limits
+valid-sizes {b} {d} v w =
+    true-and (leb (b .len) 64) (leb (d .len) 32) (le-leb (b .len) 64 (v .atMost64)) (le-leb (d .len) 32 (w .atMost32))
+
+-- a bitmap of 64 entries has one for every mark of a word
+pub all-fit : (entries marks : ℕ) → 64 ≤ entries → marks < 2 ^ 64 → true ≡ ltb marks (2 ^ entries)
+all-fit entries marks h k = sym (lt-ltb marks (2 ^ entries) (omega (arith, pow-mono h)))
+
+-- what the tests on sizes say
+pub record Sized (entries bytes marks : ℕ) : Type 0 where
+  pub few : entries ≤ 64
+  pub small : bytes ≤ 32
+  pub known : marks < 2 ^ entries
+
+pub sized : (entries bytes marks : ℕ) → sizesFit entries bytes marks ≡ true → Sized entries bytes marks
+sized entries bytes marks h =
+    let a = and-true (limits entries bytes) (ltb marks (2 ^ entries)) h in
+    let b = limits-true entries bytes (a .0) in
+    record { few = b .0; small = b .1; known = ltb-true marks (2 ^ entries) (a .1) }
+
+pub record CeFit (m : List ℕ) : Type 0 where
+  pub phase : getD m 1 0 ≤ 2
+  pub sizes : Sized (getD m 3 0) (getD m 2 0) (getD m 4 0)
+
+pub ce-fit : (m : List ℕ) → ceFits m ≡ true → CeFit m
+unfolding ceFits
+ce-fit m h =
+    let a = and-true (leb (getD m 1 0) 2) _ h in
+    record { phase = leb-true _ 2 (a .0); sizes = sized (getD m 3 0) (getD m 2 0) (getD m 4 0) (a .1) }
+
+pub record PipelineFit (m : List ℕ) : Type 0 where
+  pub state : getD m 1 0 ≤ 2
+  pub abort : getD m 4 0 ≤ 1
+  pub sizes : Sized (getD m 2 0) (getD m 6 0) (getD m 3 0)
+  pub piggyback : piggybackFits (getD m 8 0) (getD m 9 0) (getD m 10 0) (getD m 11 0) ≡ true
+
+pub pipeline-fit : (m : List ℕ) → pipelineFits m ≡ true → PipelineFit m
+unfolding pipelineFits
+pipeline-fit m h =
+    let a = and-true (leb (getD m 1 0) 2) _ h in
+    let b = and-true (leb (getD m 4 0) 1) _ (a .1) in
+    let c = and-true (sizesFit (getD m 2 0) (getD m 6 0) (getD m 3 0)) _ (b .1) in
+    record {
+      state = leb-true _ 2 (a .0);
+      abort = leb-true _ 1 (b .0);
+      sizes = sized (getD m 2 0) (getD m 6 0) (getD m 3 0) (c .0);
+      piggyback = c .1;
+    }
 
 -- what a write answers and leaves: the numbers ask for no packet, the writer refuses it, or it is written
 module _ (fine : Bool) (t d : List ℕ) (at k old : ℕ) where

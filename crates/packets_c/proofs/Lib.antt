@@ -1,3 +1,5 @@
 pub mod Asked
 pub mod Desks
 pub mod Texting
+pub mod Numbered
+pub mod Back

@@ -2,19 +2,18 @@
 -- Assumes nothing.
 use mathlib.Core.Path.{_≡_, refl, sym, ap, _∙_, subst}
 use mathlib.Core.Bool.{Bool, true, false, _&&_}
-use mathlib.Core.List.{List, [], _∷_, _++_}
+use mathlib.Core.List.{List}
 use mathlib.Core.Logic.{_⊎_, inl, inr}
 use Prim.Native.Nat.{ℕ, _+_, _≤_}
 use native.Mathlib.Omega.{arith}
 use lib.Dec.{leb, ltb, eqb}
-use lib.ListN.{length, take, drop}
-use lib.Seq.{take-at}
+use lib.ListN.{length, take}
 use borrow.Author.Tests.{le-leb, leb-true, eq-eqb, ne-eqb, eqb-true, eqb-false}
 use Rattle.limits.specs.Refusals.{badPositions, noPosition, noFit}
 use Rattle.loops.specs.Pick.{either}
-use Rattle.marks.specs.Sets.{and-true, true-and}
+use Rattle.marks.specs.Sets.{and-true}
 use Rattle.texts.specs.Put.{written, length-written}
-use Rattle.packets.specs.Packets.{ceText, ceWithin, limits, ValidCe}
+use Rattle.packets.specs.Packets.{ceText, ValidCe}
 use Rattle.packets.specs.Reading.{ceRead, ceReadOf, ceNo}
 use Rattle.packets.specs.Writing.{wroteOf, leftOf}
 use Rattle.merges.specs.Votes.{noOf}
@@ -35,6 +34,7 @@ use Rattle.packets.proofs.Promises.{ce-promises}
 use Rattle.merges.proofs.Safety.{either-cases}
 use Rattle.merges.proofs.Growth.{told-apart, redundant-keeps}
 use Rattle.merges.proofs.Limits.{merges-valid}
+use Rattle.packets_c.proofs.Asked.{taken-back, valid-sizes}
 
 -- it is a refusal
 no-fit : _≡_ {A = ℕ} noFit 0 → ⊥
@@ -86,22 +86,12 @@ unfolding mergeOf
 news-held nay n v l r = merged-held nay n v l (r .packet) (r .held)
 
 -- ---- a valid packet that is written at the start of a buffer is read from there
-within : (p : CeTwoPcPacket) → ValidCe p → ceWithin p ≡ true
-unfolding limits
-within p s =
-    true-and (leb (p .«flags_bitmap» .len) 64) (leb (p .«proposal_data» .len) 32)
-    (le-leb (p .«flags_bitmap» .len) 64 (s .bitmap .atMost64)) (le-leb (p .«proposal_data» .len) 32 (s .bytes .atMost32))
-
 some-text : (p : CeTwoPcPacket) → length (ceText p) ≡ 0 → ⊥
 unfolding ceText
 some-text p e = omega arith
 
 zero-sum : (x : ℕ) → 0 + x ≡ x
 zero-sum x = omega arith
-
-taken-back : (d t : List ℕ) → take (length t) (written d 0 t) ≡ t
-unfolding written
-taken-back d t = take-at t (drop (0 + length t) d) (length t) refl
 
 reread : (p : CeTwoPcPacket) → ValidCe p → (d : List ℕ) → 0 + length (ceText p) ≤ length d
     → payloadOf (written d 0 (ceText p)) (0 + length (ceText p)) ≡ record { held = Packet; packet = p }
@@ -132,7 +122,7 @@ module _ (p : CeTwoPcPacket) (s : ValidCe p) (local : List ℕ) (len was : ℕ) 
 
   rewritten-made : rewritten local len was p ≡ Made (leb (0 + length (ceText p)) (length local))
   unfolding rewritten wroteOf leftOf
-  rewritten-made = rw (within p s)
+  rewritten-made = rw (valid-sizes (s .bitmap) (s .bytes))
 
   made-follows : (b : Bool) → leb (0 + length (ceText p)) (length local) ≡ b → Follows (Made b)
   made-follows true e = λ k. reread p s local (leb-true (0 + length (ceText p)) (length local) e)

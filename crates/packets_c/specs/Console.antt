@@ -1,9 +1,9 @@
 -- The C entries, by 01, "Votes and packets" (the desk in C) and refusals 9 and 10: packets as numbers and bytes in lent slices.
 -- Assumes nothing: these are definitions.
-use mathlib.Core.Bool.{Bool, true, false, _&&_, _||_}
+use mathlib.Core.Bool.{Bool, _&&_, _||_}
 use mathlib.Core.List.{List, [], _∷_}
-use Prim.Native.Nat.{ℕ, _+_}
-use lib.Dec.{leb, eqb}
+use Prim.Native.Nat.{ℕ, _^_}
+use lib.Dec.{leb, ltb, eqb}
 use lib.ListN.{length, take, getD, replicate}
 use mir.Val.{boolByte}
 use Rattle.limits.specs.Limits.{dataBytes}
@@ -85,7 +85,8 @@ pipelineTold text len numbers bytes =
 unfoldable pub handed : ℕ → List ℕ → List ℕ → List ℕ
 handed refusal values d = either (eqb refusal 0) (written d 0 values) d
 
--- ---- writing: the packet that the numbers ask for, or the refusal: 10 if a slice is too short, then 9 for a number that stands for nothing or a limit
+-- ---- writing: the packet that the numbers ask for, or the refusal: 10 if a slice is too short, then 9 for numbers that
+-- no packet within the limits has. So what is written is read back as it was asked for (specs/Back.antt)
 abbrev pub dataAsked : List ℕ → ℕ → Data
 dataAsked bytes n = record { len = n; bytes = written (replicate 32 0) 0 (take n bytes) }
 
@@ -98,11 +99,19 @@ ceNumbered m d =
       «flags_bitmap» = record { len = getD m 3 0; marks = getD m 4 0 };
     }
 
+-- the limits, and each mark is that of an entry of the bitmap: none at or above its length
+abbrev pub sizesFit : ℕ → ℕ → ℕ → Bool
+sizesFit entries bytes marks = limits entries bytes && ltb marks (2 ^ entries)
+
+-- a phase is at most 2
+unfoldable pub ceFits : List ℕ → Bool
+ceFits m = leb (getD m 1 0) 2 && sizesFit (getD m 3 0) (getD m 2 0) (getD m 4 0)
+
 unfoldable pub ceAsked : List ℕ → List ℕ → CeRead
 ceAsked m bytes =
     either (leb 5 (length m))
     (either (leb (getD m 2 0) (length bytes))
-    (either (leb (getD m 1 0) 2 && limits (getD m 3 0) (getD m 2 0))
+    (either (ceFits m)
     (ceYes (ceNumbered m (dataAsked bytes (getD m 2 0))))
     (ceNo badPacket))
     (ceNo noFit))
@@ -122,16 +131,26 @@ pipelineNumbered m d =
       «piggyback_state» = stateNumbered (getD m 10 0) (getD m 11 0);
     }
 
--- a flag is 0 or 1, a phase at most 2; a piggybacked phase is looked at only where it is said to be there
+-- what may be absent: 1 and any number, or 0 and 0
+abbrev pub pairFits : ℕ → ℕ → Bool
+pairFits there n = leb there 1 && (eqb there 1 || eqb n 0)
+
+abbrev pub piggybackFits : ℕ → ℕ → ℕ → ℕ → Bool
+piggybackFits txs n states phase = pairFits txs n && (pairFits states phase && leb phase 2)
+
+-- the same, and a flag is 0 or 1
 unfoldable pub pipelineFits : List ℕ → Bool
 pipelineFits m =
-    leb (getD m 1 0) 2 && (leb (getD m 4 0) 1 && (leb (getD m 8 0) 1 && (leb (getD m 10 0) 1 && (eqb (getD m 10 0) 0 || leb (getD m 11 0) 2))))
+    leb (getD m 1 0) 2
+    && (leb (getD m 4 0) 1
+    && (sizesFit (getD m 2 0) (getD m 6 0) (getD m 3 0)
+    && piggybackFits (getD m 8 0) (getD m 9 0) (getD m 10 0) (getD m 11 0)))
 
 unfoldable pub pipelineAsked : List ℕ → List ℕ → PipelineRead
 pipelineAsked m bytes =
     either (leb 12 (length m))
     (either (leb (getD m 6 0) (length bytes))
-    (either (pipelineFits m && limits (getD m 2 0) (getD m 6 0))
+    (either (pipelineFits m)
     (pipelineYes (pipelineNumbered m (dataAsked bytes (getD m 6 0))))
     (pipelineNo badPacket))
     (pipelineNo noFit))

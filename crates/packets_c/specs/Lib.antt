@@ -1,2 +1,3 @@
 pub mod Console
 pub mod Desk
+pub mod Back

@@ -18,7 +18,7 @@ ghost use Prim.Native.Nat.{ℕ, _≤_, _<_};
 ghost use lib.ListN.{length, take, replicate};
 ghost use Rattle.limits.specs.Limits.{dataBytes};
 ghost use Rattle.texts.specs.Put.{written, Put, Room};
-ghost use Rattle.packets_c.specs.Console.{phaseNumber, phaseNumbered, txThere, txNumber, txNumbered, stateThere, stateNumber, stateNumbered, ceNumbers, pipelineNumbers, ceTold, pipelineTold, handed, ceAsked, pipelineFits, pipelineNumbered, pipelineAsked, ceWrote, ceLeft, pipelineWrote, pipelineLeft, nextOf};
+ghost use Rattle.packets_c.specs.Console.{phaseNumber, phaseNumbered, txThere, txNumber, txNumbered, stateThere, stateNumber, stateNumbered, ceNumbers, pipelineNumbers, ceTold, pipelineTold, handed, sizesFit, ceFits, ceNumbered, ceAsked, pairFits, piggybackFits, pipelineFits, pipelineNumbered, pipelineAsked, ceWrote, ceLeft, pipelineWrote, pipelineLeft, nextOf};
 
 fn phase_number(p: TwoPcPhase) -> u64
     ensures { λ r. ⌜ r ≡ phaseNumber p ⌝ }
@@ -201,6 +201,47 @@ fn filled(bytes: &[u8], len: usize) -> [u8; 32]
     d
 }
 
+// The limits, and no mark at or above the number of entries.
+fn sizes_fit(entries: usize, bytes_len: usize, marks: u64) -> bool
+    ensures { λ r. ⌜ r ≡ sizesFit entries «bytes_len» marks ⌝ }
+{
+    if !len::within(entries, bytes_len) {
+        return false;
+    }
+    if entries >= 64 {
+        return true;
+    }
+    marks < (1 << entries)
+}
+
+fn ce_fits(numbers: &[u64]) -> bool
+    requires { ⌜ 5 ≤ length (now numbers) ⌝ }
+    ensures { λ r. ⌜ r ≡ ceFits (now (numbers .entry)) ⌝ }
+{
+    if numbers[1] > 2 {
+        return false;
+    }
+    sizes_fit(numbers[3] as usize, numbers[2] as usize, numbers[4])
+}
+
+// The packet of numbers that fit.
+fn ce_packet(numbers: &[u64], proposal_data: Data) -> CeTwoPcPacket
+    requires { ⌜ 5 ≤ length (now numbers) ⌝ }
+    ensures { λ r. ⌜ r ≡ ceNumbered (now (numbers .entry)) «proposal_data» ⌝ }
+{
+    let phase = phase_numbered(numbers[1]);
+    let flags_bitmap = Bitmap {
+        len: numbers[3] as usize,
+        marks: numbers[4],
+    };
+    CeTwoPcPacket {
+        term: numbers[0],
+        phase,
+        proposal_data,
+        flags_bitmap,
+    }
+}
+
 fn ce_asked(numbers: &[u64], bytes: &[u8]) -> CeRead
     ensures { λ r. ⌜ r ≡ ceAsked (now (numbers .entry)) (now (bytes .entry)) ⌝ }
 {
@@ -211,11 +252,7 @@ fn ce_asked(numbers: &[u64], bytes: &[u8]) -> CeRead
     if bytes_len > bytes.len() {
         return two_pc_ce::no_ce(refusals::NO_FIT);
     }
-    let entries = numbers[3] as usize;
-    if numbers[1] > 2 {
-        return two_pc_ce::no_ce(refusals::BAD_PACKET);
-    }
-    if !len::within(entries, bytes_len) {
+    if !ce_fits(numbers) {
         return two_pc_ce::no_ce(refusals::BAD_PACKET);
     }
     let kept = filled(bytes, bytes_len);
@@ -223,21 +260,35 @@ fn ce_asked(numbers: &[u64], bytes: &[u8]) -> CeRead
         len: bytes_len,
         bytes: kept,
     };
-    let flags_bitmap = Bitmap {
-        len: entries,
-        marks: numbers[4],
-    };
-    let phase = phase_numbered(numbers[1]);
-    let packet = CeTwoPcPacket {
-        term: numbers[0],
-        phase,
-        proposal_data,
-        flags_bitmap,
-    };
+    let packet = ce_packet(numbers, proposal_data);
     CeRead { refusal: 0, packet }
 }
 
-// Each flag is 0 or 1, and each phase at most 2.
+// 1 and any number, or 0 and 0.
+fn pair_fits(there: u64, n: u64) -> bool
+    ensures { λ r. ⌜ r ≡ pairFits there n ⌝ }
+{
+    if there > 1 {
+        return false;
+    }
+    if there == 1 {
+        return true;
+    }
+    n == 0
+}
+
+fn piggyback_fits(tx_there: u64, tx: u64, state_there: u64, state: u64) -> bool
+    ensures { λ r. ⌜ r ≡ piggybackFits «tx_there» tx «state_there» state ⌝ }
+{
+    if !pair_fits(tx_there, tx) {
+        return false;
+    }
+    if !pair_fits(state_there, state) {
+        return false;
+    }
+    if state > 2 { false } else { true }
+}
+
 fn pipeline_fits(numbers: &[u64]) -> bool
     requires { ⌜ 12 ≤ length (now numbers) ⌝ }
     ensures { λ r. ⌜ r ≡ pipelineFits (now (numbers .entry)) ⌝ }
@@ -248,16 +299,10 @@ fn pipeline_fits(numbers: &[u64]) -> bool
     if numbers[4] > 1 {
         return false;
     }
-    if numbers[8] > 1 {
+    if !sizes_fit(numbers[2] as usize, numbers[6] as usize, numbers[3]) {
         return false;
     }
-    if numbers[10] > 1 {
-        return false;
-    }
-    if numbers[10] == 0 {
-        return true;
-    }
-    if numbers[11] > 2 { false } else { true }
+    piggyback_fits(numbers[8], numbers[9], numbers[10], numbers[11])
 }
 
 // The packet of numbers that fit.
@@ -296,10 +341,6 @@ fn pipeline_asked(numbers: &[u64], bytes: &[u8]) -> PipelineRead
         return two_pc_pipeline::no_pipeline(refusals::NO_FIT);
     }
     if !pipeline_fits(numbers) {
-        return two_pc_pipeline::no_pipeline(refusals::BAD_PACKET);
-    }
-    let entries = numbers[2] as usize;
-    if !len::within(entries, bytes_len) {
         return two_pc_pipeline::no_pipeline(refusals::BAD_PACKET);
     }
     let kept = filled(bytes, bytes_len);
