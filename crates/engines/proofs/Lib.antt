@@ -11,3 +11,4 @@ pub mod Cells
 pub mod Cursor
 pub mod RowSums
 pub mod Stretches
+pub mod Units

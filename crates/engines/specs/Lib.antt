@@ -9,4 +9,5 @@ pub mod Network
 pub mod Stretch
 pub mod Rounds
 pub mod Settings
+pub mod Exact
 pub mod Cases

@@ -20,7 +20,8 @@ nextOf ws d =
     (record { word = getD ws (d .at) 0; draw = record { at = d .at + 1; short = d .short } })
     (record { word = 0; draw = record { at = d .at; short = true } })
 
--- Unit: the word without its 11 low digits, over 2^53 (the pattern is that of 2^53).
+-- Unit: the word without its 11 low digits, over 2^53 (the pattern is that of 2^53). specs/Exact.antt says that this
+-- rounds nothing.
 unfoldable pub unitOf : ℕ → Float
 unitOf w = div binary64 (ofInt binary64 (pos (w / 2 ^ 11))) (ofBits binary64 0x4340_0000_0000_0000)
 

@@ -39,7 +39,8 @@ pub fn next(words: &[u64], d: Draw) -> Drawn
     }
 }
 
-// The word's 53 high digits as a fraction of one. They are few enough for the cast and the quotient to be exact.
+// The word's 53 high digits as a fraction of one. They are few enough for the cast and the quotient to be exact
+// (specs/Exact.antt).
 pub fn unit(w: u64) -> f64
     ensures { λ r. ⌜ r ≡ unitOf w ⌝ }
 {
