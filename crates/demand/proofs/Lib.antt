@@ -5,3 +5,4 @@ pub mod Still
 pub mod Cases
 pub mod Rounds
 pub mod Listing
+pub mod Covered
