@@ -11,3 +11,4 @@ pub mod PipelineCases
 pub mod Packing
 pub mod Valid
 pub mod Covering
+pub mod Traps
