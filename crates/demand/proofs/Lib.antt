@@ -6,3 +6,4 @@ pub mod Still
 pub mod Cases
 pub mod Rounds
 pub mod Listing
+pub mod Covered

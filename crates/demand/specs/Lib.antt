@@ -3,3 +3,4 @@ pub mod Demand
 pub mod Texts
 pub mod Cases
 pub mod Rounds
+pub mod Covered

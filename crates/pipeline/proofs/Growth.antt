@@ -1,19 +1,20 @@
 -- Document 01, demand 3's logs: whatever a round does, each log is the old log with something behind it. Assumes
 -- nothing.
-use Prim.Native.Nat.{ℕ, _+_, _≤_, _<_}
+use Prim.Native.Nat.{ℕ, _≤_, _<_}
 use mathlib.Core.Bool.{Bool, true, false, _&&_}
 use mathlib.Core.List.{List}
 use mathlib.Core.Path.{_≡_, refl, _∙_}
 use lib.Dec.{ltb}
-use lib.ListN.{getD, set}
+use lib.ListN.{getD}
 use lib.Seq.{getD-set-other}
 use native.Mathlib.Omega.{arith}
 use Rattle.loops.specs.Pick.{either}
+use Rattle.merges.proofs.Safety.{either-cases}
 use Rattle.loops.specs.Upto.{upto-holds}
 use Rattle.marks.specs.Marks.{has}
 use Rattle.engines.specs.Marked.{overMarks}
-use Rattle.pipeline.specs.Pending.{noEntry, loggedOf, pushed, finalizeTx, unanimousOf, openTx, mergeVotes, mergeAbort, isJudged, judgeAt, judged, abortAt, abortAll, ownVote}
-use Rattle.pipeline.specs.declared.two_pc_pipeline.LogEntry.{LogEntry}
+use Rattle.pipeline.specs.Pending.{noEntry, loggedOf, pushed, finalizeTx, unanimousOf, openTx, mergeVotes}
+use Rattle.pipeline.specs.Pending.{mergeAbort, isJudged, judgeAt, judged, abortAt, abortAll, ownVote}
 use Rattle.pipeline.specs.declared.two_pc_pipeline.TxLog.{TxLog}
 use Rattle.pipeline.specs.declared.two_pc_pipeline.NodeTwoPcState.{NodeTwoPcState}
 
@@ -34,17 +35,16 @@ grown-more g h =
 
 pub pushed-grown : (t : ℕ) (o : Bool) (g : TxLog) → Grown g (pushed t o g)
 unfolding pushed
-pushed-grown t o g = by (ltb (g .len) 64 && ltb t 64)
+pushed-grown t o g =
+    either-cases (Grown g) (ltb (g .len) 64 && ltb t 64)
+    (λ b. record {
+      longer = omega arith;
+      kept = λ k h. getD-set-other (g .entries) _ k _ noEntry (apart k (g .len) h);
+    })
+    (λ b. grown-same g)
   where
-    e : LogEntry
-    e = record { tx = t; committed = o }
-
     apart : (k n : ℕ) → k < n → k ≡ n → ⊥
     apart k n h q = omega arith
-
-    by : (b : Bool) → Grown g (either b (record { len = g .len + 1; entries = set (g .entries) (g .len) e }) g)
-    by true = record { longer = omega arith; kept = λ k h. getD-set-other (g .entries) (g .len) k e noEntry (apart k (g .len) h) }
-    by false = grown-same g
 
 -- the same of a position
 abbrev pub Kept : NodeTwoPcState → NodeTwoPcState → Type 0
@@ -56,7 +56,7 @@ pick-kept false s x y p q = q
 
 pub finalize-kept : (t : ℕ) (o : Bool) (s : NodeTwoPcState) → Kept s (finalizeTx t o s)
 unfolding finalizeTx
-finalize-kept t o s = pick-kept (has (loggedOf (s .log)) t) s s _ (grown-same (s .log)) (pushed-grown t o (s .log))
+finalize-kept t o s = pick-kept (has (loggedOf (s .log)) t) s s _ (grown-same (s .log)) (pushed-grown t _ (s .log))
 
 pub over-kept : (m : ℕ) (f : ℕ → NodeTwoPcState → NodeTwoPcState) → ((t : ℕ) (s : NodeTwoPcState) → Kept s (f t s)) → (s : NodeTwoPcState) → Kept s (overMarks m f s)
 unfolding overMarks

@@ -9,3 +9,6 @@ pub mod KeptLogs
 pub mod Ending
 pub mod PipelineCases
 pub mod Packing
+pub mod Valid
+pub mod Covering
+pub mod Traps

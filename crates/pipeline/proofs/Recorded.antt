@@ -1,10 +1,10 @@
 -- A number that is no transaction's enters no record. Assumes nothing.
-use Prim.Native.Nat.{ℕ, _≤_, _+_}
+use Prim.Native.Nat.{ℕ, _≤_}
 use mathlib.Core.Bool.{Bool, true, false, _&&_}
 use mathlib.Core.List.{List}
 use mathlib.Core.Path.{_≡_, refl, sym, ap₂, subst}
 use lib.Dec.{ltb}
-use lib.ListN.{length, set}
+use lib.ListN.{length}
 use lib.Seq.{set-out}
 use borrow.Author.Tests.{le-ltb}
 use Rattle.loops.specs.Pick.{either}
@@ -16,11 +16,11 @@ use Rattle.pipeline.specs.declared.two_pc_pipeline.Records.{Records}
 
 push-out : (t : ℕ) (o : Bool) (g : TxLog) → 64 ≤ t → pushed t o g ≡ g
 unfolding pushed
-push-out t o g l = rw (le-ltb t 64 l) (by (ltb (g .len) 64))
+push-out t o g l = rw (le-ltb t 64 l) (by _ (ltb (g .len) 64))
   where
-    by : (x : Bool) → either (x && false) (record { len = g .len + 1; entries = set (g .entries) (g .len) (record { tx = t; committed = o }) }) g ≡ g
-    by true = refl
-    by false = refl
+    by : (a : TxLog) (x : Bool) → either (x && false) a g ≡ g
+    by a true = refl
+    by a false = refl
 
 pub recorded-out : (t : ℕ) (o : Bool) (slot : ℕ) (b : Records) → length (b .ends) ≡ 64 → 64 ≤ t → recordTx t o slot b ≡ b
 unfolding recordTx

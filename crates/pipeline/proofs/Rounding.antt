@@ -3,7 +3,7 @@ use Prim.Native.Nat.{ℕ, _+_, _-_, _*_, _/_, _≤_, _<_}
 use mathlib.Core.Bool.{Bool, true, false, _||_, true≢false}
 use mathlib.Core.List.{List, _++_}
 use mathlib.Core.Path.{_≡_, refl, sym, ap, _∙_}
-use lib.Dec.{eqb, ltb, leb}
+use lib.Dec.{eqb, ltb}
 use lib.ListN.{length, take, drop}
 use lib.Seq.{sets}
 use mir.Val.{boolByte}
@@ -20,7 +20,7 @@ use Rattle.flood.specs.Flood.{floodRound, floodRows, floodedOf}
 use Rattle.flood.proofs.Flooding.{told-short, told-run, told-due}
 use Rattle.pipeline.specs.Pending.{joinMarks}
 use Rattle.pipeline.specs.Pipeline.{partsOf, Processing, shortestLog, progressAll, stopsAt}
-use Rattle.pipeline.specs.Round.{sizeOf, deliverAll, coveredOf, initiatorOf, preparing, bytesOf, floodFrom, countedIn, processing, closeRound, floodOf, runRound, RoundSurveyed, rowsOfRound, earlyRefusal, startDraw, lateRefusal, roundRefusal, refusedWith, acceptedWith, roundAnswer, roundBuffer}
+use Rattle.pipeline.specs.Round.{sizeOf, deliverAll, coveredOf, initiatorOf, preparing, bytesOf, floodFrom, countedIn, processing, closeRound, floodOf, runRound, RoundSurveyed, rowsOfRound, isDone, earlyRefusal, startDraw, lateRefusal, roundRefusal, refusedWith, acceptedWith, roundAnswer, roundBuffer}
 use Rattle.engines.specs.declared.words.Draw.{Draw}
 use Rattle.engines.specs.declared.network.Network.{Network}
 use Rattle.engines.specs.declared.node.Node.{Node}
@@ -115,7 +115,7 @@ module _ (conf : PipelineConf) (slot : ℕ) (stop : Bool) (e : earlyRefusal conf
   -- what an accepted opening of a round knows of the positions, and of its length
   both : ((0 < sizeOf conf) × (sizeOf conf ≤ positions)) × (longRefusal (conf .round) slot ≡ 0)
   unfolding earlyRefusal
-  both = by (eqb (sizeOf conf) 0) refl (ltb positions (sizeOf conf)) refl (stop || leb (conf .bound) slot) e
+  both = by (eqb (sizeOf conf) 0) refl (ltb positions (sizeOf conf)) refl (isDone conf slot stop) e
     where
       positive : (n : ℕ) → (n ≡ 0 → ⊥) → 0 < n
       positive n q = omega arith

@@ -201,7 +201,7 @@ takeUp (Present t o) s = finalizeTx t o s
 
 -- Whoever has the outcome that was asked for piggybacks it on the next round; nack 0 asks for nothing.
 unfoldable pub isAnswer : ℕ → NodeTwoPcState → Bool
-isAnswer nack s = ltb 0 nack && has (loggedOf (s .log)) nack
+isAnswer nack s = not (eqb nack 0) && has (loggedOf (s .log)) nack
 
 abbrev pub answered : ℕ → NodeTwoPcState → Carried → Carried
 answered nack s l =

@@ -72,7 +72,8 @@ deliverAt q i ps = set ps i q
 unfoldable pub deliverAll : RoundPacket → ℕ → List RoundPacket → List RoundPacket
 deliverAll q parts ps = overMarks parts (deliverAt q) ps
 
--- Covered is every position that holds the packet, by whichever round it came.
+-- Covered is every position that holds the packet, by whichever round it came: the packets say the same. (In a room
+-- that is by bytes: proofs/Covering.)
 unfoldable pub isCovered : RoundPacket → ℕ → List RoundPacket → ℕ → Bool
 isCovered q holding ps i = has holding i && samePacket (getD ps i noPacket) q
 
@@ -223,12 +224,15 @@ pub record RoundSurveyed (ws : List ℕ) (conf : PipelineConf) (w : Network) (p 
 
 -- ---- refusals
 
--- 2: the positions. 14: the room has stopped, or its slot has reached the bound. 15: the full length passes the last
--- slot.
+-- 14: the room has stopped, or its slot has reached the bound.
+abbrev pub isDone : PipelineConf → ℕ → Bool → Bool
+isDone conf slot stop = stop || leb (conf .bound) slot
+
+-- 2: the positions. 15: the full length passes the last slot.
 unfoldable pub earlyRefusal : PipelineConf → ℕ → Bool → ℕ
 earlyRefusal conf slot stop =
     either (eqb (sizeOf conf) 0 || ltb positions (sizeOf conf)) badPositions
-    (either (stop || leb (conf .bound) slot) stopped (longRefusal (conf .round) slot))
+    (either (isDone conf slot stop) stopped (longRefusal (conf .round) slot))
 
 abbrev pub startDraw : ℕ → Draw
 startDraw cursor = record { at = cursor; short = false }

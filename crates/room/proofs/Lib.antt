@@ -5,3 +5,4 @@ pub mod Calling
 pub mod Flooding
 pub mod Refusing
 pub mod Spending
+pub mod Validity

@@ -1,5 +1,4 @@
-use native.Mathlib.Omega.{arith}
-use borrow.Author.Tests.{lt-ltb}
+use borrow.Author.Tests.{ne-eqb}
 use Rattle.pipeline.specs.Pipeline.{isAnswer}
 use borrow.Author.Needs.{needs}
 use Rattle.pipeline.proofs.process.is_answer.Statement.{statement}
@@ -11,7 +10,7 @@ returns c = rw (c .if1 .taken)
 
 returns-2 : tie.Need-returns-2
 unfolding isAnswer
-returns-2 c = rw (lt-ltb 0 (c .before .before .before .before .args .nack) (omega arith), ← c .before .logged .ensures) (c .is-marked .ensures)
+returns-2 c = rw (ne-eqb _ _ (c .before .before .before .if1 .left), ← c .before .logged .ensures) (c .is-marked .ensures)
 
 pub is-answer-spec : {M : Type 1} → statement M
 is-answer-spec = tie.close (tie.spec
