@@ -79,6 +79,8 @@ stateIn r v = getD (r .network .nodes) v noNode .state
 
 -- A round with initiator i, from room a to room b.
 pub record Covers (i : ℕ) (a b : Room) : Type 0 where
+  pub texts : ValidTexts b
+  pub initiator : holdsOne b i ≡ true
   pub sleepers : (v : ℕ) → v < sizeOf b → stateIn b v ≡ Sleep → bytesAt b v ≡ bytesAt b i
   pub covered : coveredIn b ≡ (coveredIn a + sameBytes b i) % 2 ^ 64
 
