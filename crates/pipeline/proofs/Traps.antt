@@ -40,12 +40,13 @@ abort-of-one t u abort s l ne =
     (λ e. has-marks 64 _ u ∙ rw (lt-ltb u 64 l, ne-eqb u t ne) (or-false (has (s .aborts) u)))
     (λ e. refl)
 
--- What a position adds to the records are its fast aborts. Whatever it judges in the same step is none of them.
+-- an answer to a nack records nothing
 answer-records : (nack : ℕ) (s : NodeTwoPcState) (l : Carried) → answerNack nack s l .records ≡ l .records
 unfolding answerNack
 answer-records nack s l =
     either-cases (λ (x : Carried). x .records ≡ l .records) (isAnswer nack s) (λ e. refl) (λ e. refl)
 
+-- What a position adds to the records are its fast aborts. Whatever it judges in the same step is none of them.
 pub only-fast : (ws : List ℕ) (p : Float) (facts : RoundFacts) (rounds : List ℕ) (q : RoundPacket) (i : ℕ)
     (s : NodeTwoPcState) (l : Carried)
     → let merged = mergeRound i q (hearNew ws p i q s (l .draw) .state) in
