@@ -166,4 +166,9 @@ covered-by-bytes asked e calls words cursor rows used none =
     let r = after calls (openOf asked .room) in
     let i = calls-valid calls (openOf asked .room) (opened-valid asked) in
     let c = pipeline-covers equalBytes bytes-yes bytes-self words (length rows) used r cursor i none in
-    record { sleepers = c .sleepers; covered = c .covered }
+    record {
+      texts = valid-texts _ (pipeline-valid r i words (length rows) used cursor .payloads);
+      initiator = c .holds;
+      sleepers = c .sleepers;
+      covered = c .covered;
+    }

@@ -36,8 +36,8 @@ packetAt r v = packetOf (sizeOf r) (getD (r .pipeline .payloads) v noPacket)
 abbrev pub bytesAt : Room → ℕ → List ℕ
 bytesAt r v = either (holdsOne r v) (pipelineText (packetAt r v)) []
 
--- Each packet held is one that a text stands for (within the limits, and its numbers fit), so that no two of them have
--- the same bytes. The last two are of the reading of a position's text: where the longest text has room, it answers
+-- Each packet held is one that a text stands for: within the limits, and its numbers fit. So different ones have
+-- different bytes. The last two are of the reading of a position's text: where the longest text has room, it answers
 -- with no refusal, and what it writes are the bytes meant here.
 pub record ValidTexts (r : Room) : Type 0 where
   pub valid : (v : ℕ) → holdsOne r v ≡ true → ValidPipeline (packetAt r v)
@@ -77,8 +77,11 @@ coveredIn r = r .network .metrics .«flood_nodes_covered»
 abbrev pub stateIn : Room → ℕ → NodeState
 stateIn r v = getD (r .network .nodes) v noNode .state
 
--- A round with initiator i, from room a to room b.
+-- A round with initiator i, from room a to room b: the initiator holds a packet, and so does whoever sleeps, the same
+-- bytes; the count rises by the number of positions that hold these bytes.
 pub record Covers (i : ℕ) (a b : Room) : Type 0 where
+  pub texts : ValidTexts b
+  pub initiator : holdsOne b i ≡ true
   pub sleepers : (v : ℕ) → v < sizeOf b → stateIn b v ≡ Sleep → bytesAt b v ≡ bytesAt b i
   pub covered : coveredIn b ≡ (coveredIn a + sameBytes b i) % 2 ^ 64
 

@@ -180,6 +180,13 @@ module _ (ws : List ℕ) (conf : PipelineConf) (least : 0 < sizeOf conf) (most :
         given-now n i sleeping most v l t (prep .packet) (p .payloads) (valid .places),
       )
 
+  -- The initiator holds what it sent.
+  pub initiator-holds : has (after .holding) i ≡ true
+  unfolding runRound closeRound
+  initiator-holds =
+      holds-now n i sleeping most i (initiator-below ws conf least most p)
+      (rw (eq-eqb i i refl) (or-yes (has sleeping i))) (p .holding)
+
   initiator-text : text i ≡ sent
   initiator-text =
       part-text i (initiator-below ws conf least most p) (rw (eq-eqb i i refl) (or-yes (has sleeping i)))

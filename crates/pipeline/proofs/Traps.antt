@@ -6,6 +6,7 @@ use mathlib.Core.Bool.{Bool, false, _&&_}
 use mathlib.Core.List.{List}
 use mathlib.Core.Path.{_≡_, refl, _∙_}
 use native.Mathlib.Omega.{arith}
+use lib.Dec.{ltb}
 use lib.Ieee.{Float}
 use borrow.Author.Tests.{ne-eqb, lt-ltb, le-ltb, lt-leb}
 use Rattle.limits.specs.Limits.{lastSlot}
@@ -18,7 +19,8 @@ use Rattle.engines.specs.Rows.{rowsRefused}
 use Rattle.engines.specs.declared.network.Network.{Network}
 use Rattle.pipeline.specs.Pending.{mergeAbort, fastOf}
 use Rattle.pipeline.specs.Pipeline.{hearNew, mergeRound, recordAborts, isAnswer, answerNack, processOne}
-use Rattle.pipeline.specs.Round.{sizeOf, runRound, dueOfRound, earlyRefusal, startDraw, lateRefusal, roundRefusal}
+use Rattle.pipeline.specs.Round.{sizeOf, runRound, dueOfRound, isDone, earlyRefusal, startDraw, lateRefusal}
+use Rattle.pipeline.specs.Round.{roundRefusal}
 use Rattle.pipeline.specs.declared.two_pc_pipeline.NodeTwoPcState.{NodeTwoPcState}
 use Rattle.pipeline.specs.declared.two_pc_pipeline.RoundPacket.{RoundPacket}
 use Rattle.pipeline.specs.declared.process.Carried.{Carried}
@@ -40,12 +42,13 @@ abort-of-one t u abort s l ne =
     (λ e. has-marks 64 _ u ∙ rw (lt-ltb u 64 l, ne-eqb u t ne) (or-false (has (s .aborts) u)))
     (λ e. refl)
 
--- What a position adds to the records are its fast aborts. Whatever it judges in the same step is none of them.
+-- an answer to a nack records nothing
 answer-records : (nack : ℕ) (s : NodeTwoPcState) (l : Carried) → answerNack nack s l .records ≡ l .records
 unfolding answerNack
 answer-records nack s l =
     either-cases (λ (x : Carried). x .records ≡ l .records) (isAnswer nack s) (λ e. refl) (λ e. refl)
 
+-- What a position adds to the records are its fast aborts. Whatever it judges in the same step is none of them.
 pub only-fast : (ws : List ℕ) (p : Float) (facts : RoundFacts) (rounds : List ℕ) (q : RoundPacket) (i : ℕ)
     (s : NodeTwoPcState) (l : Carried)
     → let merged = mergeRound i q (hearNew ws p i q s (l .draw) .state) in
@@ -60,13 +63,10 @@ module _ (ws : List ℕ) (numbers used : ℕ) (conf : PipelineConf) (w : Network
       → w .slot + conf .round .length ≤ lastSlot → earlyRefusal conf (w .slot) (p .stop) ≡ 0
   unfolding earlyRefusal longRefusal
   early-none least most going before short =
-      rw (
-        ne-eqb (sizeOf conf) 0 (omega arith),
-        le-ltb 64 (sizeOf conf) most,
-        going,
-        lt-leb (conf .bound) (w .slot) before,
-        le-ltb lastSlot (w .slot + conf .round .length) short,
-      )
+      let on : isDone conf (w .slot) (p .stop) ≡ false = rw going (lt-leb (conf .bound) (w .slot) before) in
+      let fit : ltb lastSlot (w .slot + conf .round .length) ≡ false =
+      le-ltb lastSlot (w .slot + conf .round .length) short in
+      rw (ne-eqb (sizeOf conf) 0 (omega arith), le-ltb 64 (sizeOf conf) most, on, fit)
 
   late-none : runRound ws conf w p (startDraw cursor) .draw .short ≡ false
       → (used + dueOfRound ws conf w p (startDraw cursor)) * 5 ≤ numbers

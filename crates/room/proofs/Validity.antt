@@ -9,7 +9,7 @@ use lib.Dec.{eqb}
 use lib.ListN.{getD}
 use native.Mathlib.Omega.{arith}
 use borrow.Author.Tests.{eqb-true, eqb-false}
-use Rattle.marks.specs.Marks.{marks, countOf}
+use Rattle.marks.specs.Marks.{has, marks, countOf}
 use Rattle.engines.specs.Nodes.{noNode}
 use Rattle.engines.specs.declared.node.NodeState.the-variants.{Sleep}
 use Rattle.merges.proofs.Safety.{either-cases}
@@ -21,7 +21,7 @@ use Rattle.pipeline.specs.declared.pipeline.PipelineConf.{PipelineConf}
 use Rattle.pipeline.specs.declared.pipeline.PipelineAnswer.{PipelineAnswer}
 use Rattle.pipeline.proofs.Rounding.{early-size, refusal-none}
 use Rattle.pipeline.proofs.Valid.{ValidPart, new-valid, answer-valid}
-use Rattle.pipeline.proofs.Covering.{textIn, run-covered, sleeper-text}
+use Rattle.pipeline.proofs.Covering.{textIn, initiator-holds, run-covered, sleeper-text}
 use Rattle.room.specs.declared.room.Room.{Room}
 use Rattle.room.specs.declared.room.RoomConf.{RoomConf}
 use Rattle.room.specs.declared.room.Asked.{Asked}
@@ -149,8 +149,10 @@ module _ (test : List ℕ → List ℕ → Bool) (sound : (a b : List ℕ) → t
   abbrev pub holdingText : Room → ℕ → ℕ
   holdingText r i = countOf (marks (sizeOf r) (λ v. test (textOf r v) (textOf r i))) (sizeOf r)
 
-  -- From room a to room b: covered has risen by that number, and whoever sleeps holds that text.
+  -- From room a to room b: position i holds a packet, covered has risen by that number, and whoever sleeps holds that
+  -- text.
   pub record Covers (a b : Room) (i : ℕ) : Type 0 where
+    pub holds : has (b .pipeline .holding) i ≡ true
     pub covered : b .network .metrics .«flood_nodes_covered»
         ≡ (a .network .metrics .«flood_nodes_covered» + holdingText b i) % 2 ^ 64
     pub sleepers : (v : ℕ) → v < sizeOf b → getD (b .network .nodes) v noNode .state ≡ Sleep → textOf b v ≡ textOf b i
@@ -163,6 +165,7 @@ module _ (test : List ℕ → List ℕ → Bool) (sound : (a b : List ℕ) → t
       let d = startDraw cursor in
       accepted-ran ws numbers used r cursor (λ x. Covers r x (initiator r)) none
       (λ l m. record {
+        holds = initiator-holds ws conf l m (r .network) (r .pipeline) d valid;
         covered = run-covered ws conf l m (r .network) (r .pipeline) d valid test sound complete;
         sleepers = sleeper-text ws conf l m (r .network) (r .pipeline) d valid;
       })
