@@ -523,7 +523,11 @@ mod compared {
             m,
             match number {
                 2 => "refused 2",
+                3 => "refused 3",
+                4 => "refused 4",
+                6 => "refused 6",
                 8 => "refused 8",
+                9 => "refused 9",
                 15 => "refused 15",
                 16 => "refused 16",
                 _ => "refused 17",
@@ -591,6 +595,80 @@ mod compared {
         refused(t, m, "initiator", &c, 8);
     }
 
+    /// The refusals of a call, the highest first.
+    const REFUSALS: [u64; 9] = [17, 16, 15, 9, 8, 6, 4, 3, 2];
+
+    /// The call changed so that this refusal holds; false where it cannot: 16 of a round that draws nothing, 3 of 64 positions.
+    fn spoil(r: &mut Prng, c: &mut Call, ran: &Ran, number: u64) -> bool {
+        match number {
+            2 => c.n = *r.pick(&[0, 65, usize::MAX]),
+            3 => {
+                if c.n == 64 {
+                    return false;
+                }
+                let row = r.index(c.n);
+                c.links[row] |= 1 << (c.n + r.index(64 - c.n));
+            }
+            4 => {
+                c.loss = *r.pick(&[
+                    f64::NAN,
+                    -f64::NAN,
+                    1.0,
+                    2.0,
+                    -f64::from_bits(1),
+                    -1.0,
+                    f64::INFINITY,
+                    f64::NEG_INFINITY,
+                ])
+            }
+            6 => c.interval = 0,
+            8 => c.initiator = *r.pick(&[c.n, c.n + 1, 64, usize::MAX]),
+            9 => {
+                // what is held, phase, lengths of data and bitmap, or one of the bytes
+                let (byte, above) = (6 + r.index(32), r.below(300));
+                let (place, most) = *r.pick(&[(0, 2), (2, 2), (3, 32), (4, 64), (byte, 255)]);
+                let wrong = *r.pick(&[most + 1, most + 2 + above, 1 << 32, u64::MAX]);
+                c.state[HELD + PAYLOAD * r.index(c.n) + place] = wrong;
+            }
+            15 => c.slots = u64::MAX - r.below(3),
+            16 => {
+                if ran.cursor == c.state[4] {
+                    return false;
+                }
+                c.words.truncate(ran.cursor as usize - 1);
+            }
+            _ => c.state[3] = c.rows.len() as u64 / 5 + 1 + r.below(3),
+        }
+        true
+    }
+
+    /// Each refusal by itself, and several at once: the lowest is told. Numbers behind the positions refuse nothing.
+    fn refusals(t: &mut Tally, m: &mut Met, r: &mut Prng, call: &Call, ran: &Ran, whole: &Seen) {
+        for number in REFUSALS {
+            let mut c = call.clone();
+            if spoil(r, &mut c, ran, number) {
+                refused(t, m, "one thing wrong", &c, number);
+            }
+        }
+        let mut c = call.clone();
+        let mut lowest = 0;
+        for number in REFUSALS {
+            if r.chance(1, 2) && spoil(r, &mut c, ran, number) {
+                lowest = number;
+            }
+        }
+        if lowest != 0 {
+            refused(t, m, "several things wrong", &c, lowest);
+        }
+        let mut c = call.clone();
+        for x in &mut c.state[HELD + PAYLOAD * call.n..] {
+            *x = r.number();
+        }
+        let (refusal, state, rows) = c.made();
+        let ours = seen(c.n, refusal, &state, &rows);
+        t.same("numbers of no position", c.size(), || c.told(), &ours, whole);
+    }
+
     /// One round, after every slot. Hands back the state after the whole of it, if it was accepted.
     fn round(
         t: &mut Tally,
@@ -646,6 +724,7 @@ mod compared {
         met(m, "words drawn", ran.cursor - call.state[4]);
         if r.chance(1, 4) {
             edges(t, m, r, call, &ran, &ours);
+            refusals(t, m, r, call, &ran, &ours);
         }
         Some((state, rows, ran))
     }
@@ -844,9 +923,10 @@ mod compared {
     }
 
     fn bitmap(r: &mut Prng, n: usize) -> Vec<bool> {
-        let length = match r.below(6) {
-            0 => r.index(n + 1),
-            1 => (n + 1 + r.index(3)).min(64),
+        let length = match r.below(12) {
+            0 | 1 => r.index(n + 1),
+            2 | 3 => (n + 1 + r.index(3)).min(64),
+            4 => 64,
             _ => n,
         };
         let like = r.below(4);
@@ -864,7 +944,7 @@ mod compared {
                 } else {
                     phase
                 },
-                proposal_data: (0..r.index(4)).map(|_| r.next() as u8).collect(),
+                proposal_data: (0..*r.pick(&[0, 1, 2, 3, 32])).map(|_| r.next() as u8).collect(),
                 flags_bitmap: bitmap(r, n),
             })
             .unwrap(),
@@ -920,12 +1000,13 @@ mod compared {
     /// Shorter and longer lists than a state has numbers: the rule reads 0 behind the end and puts nothing there.
     fn lists(t: &mut Tally, r: &mut Prng, count: u64) {
         for _ in 0..count {
+            let n = 1 + r.index(4);
             let mut call = Call {
                 state: vec![0; NUMBERS],
                 words: words(r, 40),
-                links: vec![u64::MAX; r.index(5)],
+                links: vec![(1 << n) - 1; r.index(5)],
                 rows: vec![WAS; 50],
-                n: 1 + r.index(4),
+                n,
                 p: 0.0,
                 seed: 0,
                 timeout: r.below(4),

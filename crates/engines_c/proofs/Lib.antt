@@ -1,2 +1,5 @@
 pub mod Storing
 pub mod Stating
+pub mod Fitting
+pub mod Refusing
+pub mod Lowest

@@ -1,20 +1,24 @@
 -- Document 01, "Where each language form belongs", entries on slices and numbers: what a lent list of numbers says of
 -- what positions hold. Assumes nothing.
+use mathlib.Core.Bool.{Bool, _&&_}
 use mathlib.Core.List.{List, [], _∷_}
 use Prim.Native.Nat.{ℕ, _+_, _*_, _%_}
-use lib.Dec.{eqb}
+use lib.Dec.{eqb, leb}
 use lib.ListN.{getD}
 use lib.Seq.{sets}
 use Rattle.limits.specs.Limits.{positions, dataBytes}
 use Rattle.loops.specs.Pick.{either}
 use Rattle.loops.specs.Table.{tabulate}
 use Rattle.loops.specs.Upto.{upto}
+use Rattle.marks.specs.Marks.{allOf}
+use Rattle.packets.specs.Packets.{limits}
 use Rattle.packets_c.specs.Console.{phaseNumber, phaseNumbered}
 use Rattle.merges.specs.Merging.{noPayload}
 use Rattle.packets.specs.declared.CeTwoPcPacket.{CeTwoPcPacket}
 use Rattle.merges.specs.declared.merging.Held.{Held}
 use Rattle.merges.specs.declared.merging.Held.the-variants.{Empty, Unreadable, Packet}
 use Rattle.merges.specs.declared.merging.Payload.{Payload}
+use Rattle.engines.specs.Clamp.{atMost64}
 use Rattle.engines_c.specs.Numbers.{cell}
 
 abbrev pub heldNumber : Held → ℕ
@@ -42,6 +46,20 @@ packetAt xs at k =
 
 unfoldable pub payloadAt : List ℕ → ℕ → ℕ → Payload
 payloadAt xs at k = record { held = heldNumbered (cell xs at k); packet = packetAt xs at k }
+
+-- Refusal 9 is for numbers that stand for no payload. Whatever is held, each of the 38 must be one that its place has: one
+-- of three for what it is and for the phase, lengths within the limits, and bytes.
+unfoldable pub bytesFit : List ℕ → ℕ → ℕ → Bool
+bytesFit xs at k = allOf dataBytes (λ i. leb (cell xs at (k + i)) 255)
+
+unfoldable pub payloadFits : List ℕ → ℕ → ℕ → Bool
+payloadFits xs at k =
+    leb (cell xs at k) 2
+    && (leb (cell xs at (k + 2)) 2 && (limits (cell xs at (k + 4)) (cell xs at (k + 3)) && bytesFit xs at (k + 6)))
+
+-- those of each of the first n positions are
+unfoldable pub heldFits : List ℕ → ℕ → ℕ → Bool
+heldFits xs at n = allOf (atMost64 n) (λ i. payloadFits xs at (i * 38))
 
 -- a payload for each position, one behind the other
 unfoldable pub heldAt : List ℕ → ℕ → List Payload

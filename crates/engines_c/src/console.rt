@@ -7,26 +7,11 @@ use super::payloads;
 use capture::capture::CeAnswer;
 use capture::capture::CeState;
 use engines::network::RoundConf;
+use engines::settings;
 use engines::settings::Settings;
 use engines::words::Draw;
 use graph::network::NetworkGraph;
 use limits::refusals;
-
-// The refusal of a count of positions, then that of an initiator that is none of them.
-fn asked(n: usize, initiator: usize) -> u64
-    ensures { λ r. ⌜ r ≡ askedOf n initiator ⌝ }
-{
-    if n == 0 {
-        return refusals::BAD_POSITIONS;
-    }
-    if limits::POSITIONS < n {
-        return refusals::BAD_POSITIONS;
-    }
-    if n <= initiator {
-        return refusals::NO_POSITION;
-    }
-    0
-}
 
 // A row of links for each position; missing ones are empty.
 fn links_of(links: &[u64]) -> [u64; limits::POSITIONS]
@@ -74,6 +59,30 @@ fn conf_of(
     }
 }
 
+// The refusal of a call before its round is run, the lowest first.
+fn asked(xs: &[u64], conf: RoundConf, initiator: usize) -> u64
+    ensures { λ r. ⌜ r ≡ askedOf conf initiator (now (xs .entry)) ⌝ }
+{
+    let graph = conf.graph;
+    let links = graph.refusal();
+    if links != 0 {
+        return links;
+    }
+    if !settings::loss_accepted(conf.settings.loss_rate) {
+        return refusals::BAD_LOSS;
+    }
+    if conf.interval == 0 {
+        return refusals::NO_INTERVAL;
+    }
+    if conf.graph.n <= initiator {
+        return refusals::NO_POSITION;
+    }
+    if !payloads::held_fits(xs, 528, conf.graph.n) {
+        return refusals::BAD_PACKET;
+    }
+    0
+}
+
 fn state_of(xs: &[u64]) -> CeState
     ensures { λ r. ⌜ r ≡ stateAt (now (xs .entry)) ⌝ }
 {
@@ -113,7 +122,8 @@ fn put_state(xs: &mut [u64], a: CeAnswer)
 }
 
 // One round of at most `slots` slots. The state: slot, next row slot, bytes sent, rows used, cursor, whether the goal
-// was met; at 8 the counts of the room, at 16 the nodes, at 528 what positions hold.
+// was met; at 8 the counts of the room, at 16 the nodes, at 528 what positions hold. Refused by 2, 3, 4, 6, 8 and 9, and
+// by 15, 16 and 17 of the round, the lowest first.
 #[no_mangle]
 pub extern "C" fn ce_round(
     state: &mut [u64],
@@ -133,10 +143,6 @@ pub extern "C" fn ce_round(
         (confOf (now (links .entry)) n «abort_probability» seed «listen_timeout» «loss_rate» interval slots) initiator
         r (now (state .exit)) (now (rows .exit)) ⌝ }
 {
-    let refusal = asked(n, initiator);
-    if refusal != 0 {
-        return refusal;
-    }
     let conf = conf_of(
         links,
         n,
@@ -147,6 +153,10 @@ pub extern "C" fn ce_round(
         interval,
         slots,
     );
+    let refusal = asked(state, conf, initiator);
+    if refusal != 0 {
+        return refusal;
+    }
     let c = state_of(state);
     let used = numbers::number(state, 3) as usize;
     let cursor = numbers::number(state, 4) as usize;

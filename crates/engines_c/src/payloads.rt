@@ -2,9 +2,11 @@
 // packet), the packet's term and phase, the length of its data and of its bitmap, the bitmap's marks, and 32 bytes of data.
 ghost use mathlib.Core.Path.{_≡_};
 ghost use Prim.Native.Nat.{_+_, _≤_};
+ghost use Rattle.packets.specs.Packets.{limits};
 ghost use Rattle.packets_c.specs.Console.{phaseNumber, phaseNumbered};
-ghost use Rattle.engines_c.specs.Payloads.{heldNumber, heldNumbered, bytesAt, payloadAt, heldAt, payloadNumbers, putPayload, putHeld};
+ghost use Rattle.engines_c.specs.Payloads.{heldNumber, heldNumbered, bytesAt, payloadAt, heldAt, bytesFit, payloadFits, heldFits, payloadNumbers, putPayload, putHeld};
 use super::numbers;
+use engines::clamp;
 use merges::merging::Held;
 use merges::merging::Payload;
 use packets::Bitmap;
@@ -110,6 +112,68 @@ pub fn held_of(xs: &[u64], at: usize) -> [Payload; limits::POSITIONS]
     }
     a
 }
+
+// ---- numbers that stand for no payload
+
+fn bytes_fit(xs: &[u64], at: usize, k: usize) -> bool
+    requires { ⌜ k ≤ 10000 ⌝ }
+    ensures { λ r. ⌜ r ≡ bytesFit (now (xs .entry)) at k ⌝ }
+{
+    let mut i: usize = 0;
+    while i < limits::DATA {
+        if 255 < numbers::number_behind(xs, at, k + i) {
+            return false;
+        }
+        i += 1;
+    }
+    true
+}
+
+// Whether a payload's lengths are within the limits.
+fn lengths_fit(entries: u64, bytes: u64) -> bool
+    ensures { λ r. ⌜ r ≡ limits entries bytes ⌝ }
+{
+    if (limits::BITMAP as u64) < entries {
+        return false;
+    }
+    bytes <= limits::DATA as u64
+}
+
+// Whether the numbers that start k places behind at are those of a payload.
+fn payload_fits(xs: &[u64], at: usize, k: usize) -> bool
+    requires { ⌜ k ≤ 9000 ⌝ }
+    ensures { λ r. ⌜ r ≡ payloadFits (now (xs .entry)) at k ⌝ }
+{
+    if 2 < numbers::number_behind(xs, at, k) {
+        return false;
+    }
+    if 2 < numbers::number_behind(xs, at, k + 2) {
+        return false;
+    }
+    let bytes = numbers::number_behind(xs, at, k + 3);
+    let entries = numbers::number_behind(xs, at, k + 4);
+    if !lengths_fit(entries, bytes) {
+        return false;
+    }
+    bytes_fit(xs, at, k + 6)
+}
+
+// Whether those of the first n positions are.
+pub fn held_fits(xs: &[u64], at: usize, n: usize) -> bool
+    ensures { λ r. ⌜ r ≡ heldFits (now (xs .entry)) at n ⌝ }
+{
+    let count = clamp::at_most_64(n);
+    let mut i: usize = 0;
+    while i < count {
+        if !payload_fits(xs, at, i * 38) {
+            return false;
+        }
+        i += 1;
+    }
+    true
+}
+
+// ---- numbers put back
 
 // Bytes as numbers of 64 digits.
 fn widened(bytes: [u8; limits::DATA]) -> [u64; limits::DATA]
