@@ -12,9 +12,22 @@ use Rattle.limits.specs.Refusals.{badPacket, noFit}
 use Rattle.texts.specs.Put.{written, Put, Room}
 use Rattle.texts.specs.Decimal.{decimal}
 use Rattle.texts.specs.Readers.{boolText}
-use Rattle.packets.specs.Packets.{limits, phaseText, bitmapText, dataText, txText, stateText, ceText, pipelineText}
+use Rattle.packets.specs.Packets.{
+  limits,
+  phaseText,
+  bitmapText,
+  dataText,
+  txText,
+  stateText,
+  ceText,
+  pipelineText,
+  ValidBitmap,
+  ValidData,
+}
 use Rattle.packets.specs.Writing.{textLen, refused, wroteOf, leftOf}
 use Rattle.packets.specs.declared.Wrote.{Wrote}
+use Rattle.packets.specs.declared.Bitmap.{Bitmap}
+use Rattle.packets.specs.declared.Data.{Data}
 use Rattle.packets.specs.declared.TwoPcPhase.{TwoPcPhase}
 use Rattle.packets.specs.declared.TwoPcPhase.the-variants.{Prepare, Committed, Aborted}
 use Rattle.packets.specs.declared.PiggybackState.{PiggybackState}
@@ -29,6 +42,10 @@ limits-true a b h = go (leb a 64) refl h
     go : (t : Bool) → leb a 64 ≡ t → (t && leb b 32) ≡ true → (a ≤ 64) × (b ≤ 32)
     go true e k = (leb-true a 64 e, leb-true b 32 k)
     go false e k = let z : _≡_ {A = ℕ} 0 1 = cc in absurd (omega arith)
+
+pub limits-valid : {b : Bitmap} {d : Data} → ValidBitmap b → ValidData d → limits (b .len) (d .len) ≡ true
+unfolding limits
+limits-valid {b} {d} v w = rw (le-leb (b .len) 64 (v .atMost64), le-leb (d .len) 32 (w .atMost32))
 
 -- within the limits what is measured is the text
 pub measured : (fine : Bool) (t : List ℕ) (r : ℕ) → fine ≡ true → r ≡ textLen fine t → r ≡ length t

@@ -69,12 +69,16 @@ bitmapOf w = record { len = w .0; marks = w .1 }
 unfoldable pub bitmapAt : Reader Bitmap
 bitmapAt s at = map bitmapOf (listAt boolAt storeMark bitmapEntries 0 s at)
 
--- an array of at most 32 numbers below 256, stored from the first byte on, with zeros behind them
+-- an array of numbers below 256, at most as many as a packet may have, stored from the first byte on, with zeros
+-- behind them
+abbrev pub mostBytes : ℕ
+mostBytes = dataBytes
+
 abbrev pub dataOf : ℕ × List ℕ → Data
 dataOf w = record { len = w .0; bytes = w .1 }
 
 unfoldable pub dataAt : Reader Data
-dataAt s at = map dataOf (listAt (numAt 256) storeByte dataBytes (replicate 32 0) s at)
+dataAt s at = map dataOf (listAt (numAt 256) storeByte mostBytes (replicate 32 0) s at)
 
 unfoldable pub txAt : Reader PiggybackTx
 txAt = orNull tx.Absent (λ s at. map tx.Present (numAt (2 ^ 64) s at))

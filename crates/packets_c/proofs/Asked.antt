@@ -11,9 +11,9 @@ use lib.Seq.{take-at}
 use lib.Pow.{pow-mono}
 use borrow.Author.Tests.{eq-eqb, ne-eqb, le-leb, lt-leb, lt-ltb, leb-true, ltb-true}
 use Rattle.limits.specs.Refusals.{noFit}
-use Rattle.marks.specs.Sets.{and-true, true-and}
+use Rattle.marks.specs.Sets.{and-true}
 use Rattle.texts.specs.Put.{written, Put}
-use Rattle.packets.specs.Packets.{limits, ValidBitmap, ValidData}
+use Rattle.packets.specs.Packets.{limits}
 use Rattle.packets.specs.Reading.{ceNo, ceRead, pipelineNo, pipelineRead}
 use Rattle.packets.specs.Writing.{wroteOf, leftOf}
 use Rattle.packets.proofs.Writes.{limits-true}
@@ -29,8 +29,6 @@ use Rattle.packets_c.specs.Console.{
   askedLeft,
   nextOf,
 }
-use Rattle.packets.specs.declared.Bitmap.{Bitmap}
-use Rattle.packets.specs.declared.Data.{Data}
 use Rattle.packets.specs.declared.Wrote.{Wrote}
 
 -- refused: the slice is as it was; else it has the values in front
@@ -82,12 +80,6 @@ module _ (text : List ℕ) (len n b : ℕ) where
 pub taken-back : (d t : List ℕ) → take (length t) (written d 0 t) ≡ t
 unfolding written
 taken-back d t = take-at t (drop (0 + length t) d) (length t) refl
-
--- a valid packet is within the limits
-pub valid-sizes : {b : Bitmap} {d : Data} → ValidBitmap b → ValidData d → limits (b .len) (d .len) ≡ true
-unfolding limits
-valid-sizes {b} {d} v w =
-    true-and (leb (b .len) 64) (leb (d .len) 32) (le-leb (b .len) 64 (v .atMost64)) (le-leb (d .len) 32 (w .atMost32))
 
 -- a bitmap of 64 entries has one for every mark of a word
 pub all-fit : (entries marks : ℕ) → 64 ≤ entries → marks < 2 ^ 64 → true ≡ ltb marks (2 ^ entries)

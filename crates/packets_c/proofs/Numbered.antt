@@ -24,6 +24,7 @@ use Rattle.packets.specs.declared.PiggybackTx.{PiggybackTx}
 use Rattle.packets.specs.declared.PiggybackTx.the-variants as tx
 use Rattle.packets.specs.declared.PiggybackState.{PiggybackState}
 use Rattle.packets.specs.declared.PiggybackState.the-variants as state
+use Rattle.packets.proofs.Writes.{limits-valid}
 use Rattle.packets_c.specs.Console.{
   phaseNumber,
   phaseNumbered,
@@ -38,7 +39,7 @@ use Rattle.packets_c.specs.Console.{
   pairFits,
   piggybackFits,
 }
-use Rattle.packets_c.proofs.Asked.{taken-back, valid-sizes}
+use Rattle.packets_c.proofs.Asked.{taken-back}
 
 -- ---- lists
 pub every-take : {P : ℕ → Type 0} (n : ℕ) (l : List ℕ) → Every P l → Every P (take n l)
@@ -171,5 +172,5 @@ data-room d v =
 -- the sizes of a valid packet fit
 pub sizes-fit : {b : Bitmap} {d : Data} → ValidBitmap b → ValidData d → sizesFit (b .len) (d .len) (b .marks) ≡ true
 sizes-fit {b} {d} v w =
-    true-and (limits (b .len) (d .len)) (ltb (b .marks) (2 ^ b .len)) (valid-sizes v w)
+    true-and (limits (b .len) (d .len)) (ltb (b .marks) (2 ^ b .len)) (limits-valid v w)
     (lt-ltb (b .marks) (2 ^ b .len) (v .marks-lt))
