@@ -20,8 +20,8 @@ use Rattle.texts.specs.NumberLaws.{num-reads, digit-first}
 use Rattle.texts.specs.ListLaws.{Every, every-all, Listed, list-sound, list-complete}
 use Rattle.texts.specs.Stores.{storeMark, storeByte}
 use Rattle.texts.specs.StoreLaws.{wordOf, marks-of-word, word-lt, word-of-marks, stored-word, stored-bytes}
-use Rattle.packets.specs.Packets.{phaseText, bitmapText, dataText, txText, stateText, ValidBitmap, ValidData, ValidTx}
-use Rattle.packets.specs.Reading.{phaseAt, bitmapOf, bitmapAt, dataOf, dataAt, txAt, stateAt, mostBytes}
+use Rattle.packets.specs.Packets.{mostBytes, phaseText, bitmapText, dataText, txText, stateText, ValidBitmap, ValidData, ValidTx}
+use Rattle.packets.specs.Reading.{phaseAt, bitmapOf, bitmapAt, dataOf, dataAt, txAt, stateAt}
 use Rattle.packets.specs.declared.TwoPcPhase.{TwoPcPhase}
 use Rattle.packets.specs.declared.TwoPcPhase.the-variants.{Prepare, Committed, Aborted}
 use Rattle.packets.specs.declared.Bitmap.{Bitmap}

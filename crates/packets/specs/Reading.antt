@@ -6,13 +6,14 @@ use mathlib.Core.List.{List, [], _∷_}
 use Prim.Native.Nat.{ℕ, _+_, _^_}
 use lib.Dec.{leb}
 use lib.ListN.{length, take, replicate}
-use Rattle.limits.specs.Limits.{bitmapEntries, dataBytes}
+use Rattle.limits.specs.Limits.{bitmapEntries}
 use Rattle.limits.specs.Refusals.{badPacket, noFit}
 use Rattle.loops.specs.Pick.{either}
 use Rattle.texts.specs.Literals.{litAt}
 use Rattle.texts.specs.Readers.{Found, got, bad, Reader, on, map, behind, both, whole, numAt, boolAt, orNull, listAt}
 use Rattle.texts.specs.Stores.{storeMark, storeByte}
 use Rattle.packets.specs.Packets.{
+  mostBytes,
   phaseText,
   keyTerm,
   keyPhase,
@@ -69,11 +70,7 @@ bitmapOf w = record { len = w .0; marks = w .1 }
 unfoldable pub bitmapAt : Reader Bitmap
 bitmapAt s at = map bitmapOf (listAt boolAt storeMark bitmapEntries 0 s at)
 
--- an array of numbers below 256, at most as many as a packet may have, stored from the first byte on, with zeros
--- behind them
-abbrev pub mostBytes : ℕ
-mostBytes = dataBytes
-
+-- an array of at most 32 numbers below 256, stored from the first byte on, with zeros behind them
 abbrev pub dataOf : ℕ × List ℕ → Data
 dataOf w = record { len = w .0; bytes = w .1 }
 

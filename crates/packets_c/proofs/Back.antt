@@ -42,14 +42,14 @@ use Rattle.packets_c.specs.Console.{
 }
 use Rattle.packets_c.specs.Back.{ceEntries, pipelineEntries, ReadBack, WrittenAgain}
 use Rattle.packets_c.proofs.Asked.{
-  CeFit,
-  ce-fit,
-  PipelineFit,
-  pipeline-fit,
   ce-as-read,
   pipeline-as-read,
 }
 use Rattle.packets_c.proofs.Numbered.{
+  CeFit,
+  ce-fit,
+  PipelineFit,
+  pipeline-fit,
   every-at,
   picked,
   pick,

@@ -6,7 +6,8 @@ use borrow.Author.Needs.{needs}
 use borrow.Author.Tests.{not-true, not-false}
 use lib.ListN.{length, set, replicate, length-set}
 use Rattle.packets.proofs.Founds.{num-got, num-bad}
-use Rattle.packets.specs.Reading.{dataOf, dataAt, dataFound, mostBytes}
+use Rattle.packets.specs.Packets.{mostBytes}
+use Rattle.packets.specs.Reading.{dataOf, dataAt, dataFound}
 use Rattle.texts.specs.ListLaws.{turn-none, turn-bad, turn-last, turn-stop, turn-more, list-shut, list-empty, list-open}
 use Rattle.texts.specs.LiteralLaws.{lit-le}
 use Rattle.texts.specs.NumberLaws.{num-reads}
