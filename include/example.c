@@ -1,9 +1,11 @@
-/* Writes a packet of each family, reads it back, shows two refusals, and passes a proposal on by a merge. From the top of the repository:
+/* Writes a packet of each family, reads it back, shows refusals, and passes a proposal on by a merge. include/check
+   builds and runs it; by hand, from the top of the repository:
 
        rt staticlib packets_c
        gcc -std=c11 -Wall -Wextra -Werror -Iinclude include/example.c target/staticlib/libpackets_c.a -o target/example
        target/example
 */
+#include <inttypes.h>
 #include <stdio.h>
 #include "packets.h"
 
@@ -11,7 +13,12 @@ static const char *const phases[] = {"Prepare", "Committed", "Aborted"};
 
 static void show_text(const uint8_t *text, uint64_t len)
 {
-    printf("%.*s (%llu bytes)\n", (int)len, (const char *)text, (unsigned long long)len);
+    printf("%.*s (%" PRIu64 " bytes)\n", (int)len, (const char *)text, len);
+}
+
+static void show_refusal(const char *what, uint64_t refusal)
+{
+    printf("%s: refusal %" PRIu64 "\n", what, refusal);
 }
 
 static int capture(void)
@@ -28,12 +35,15 @@ static int capture(void)
     uint8_t bytes[PACKET_DATA];
     if (ce_packet_read(text, sizeof text, len, back, CE_NUMBERS, bytes, sizeof bytes) != 0)
         return 1;
-    printf("term %llu, %s, %llu bytes of data, %llu entries, marks %llu\n", (unsigned long long)back[CE_TERM], phases[back[CE_PHASE]],
-           (unsigned long long)back[CE_DATA_LEN], (unsigned long long)back[CE_BITMAP_LEN], (unsigned long long)back[CE_MARKS]);
+    printf("term %" PRIu64 ", %s, %" PRIu64 " bytes of data, %" PRIu64 " entries, marks %" PRIu64 "\n",
+           back[CE_TERM], phases[back[CE_PHASE]], back[CE_DATA_LEN], back[CE_BITMAP_LEN], back[CE_MARKS]);
 
-    /* A text that is cut short is refused, and so is a buffer that is one byte short. */
-    printf("cut text: refusal %llu\n", (unsigned long long)ce_packet_read(text, sizeof text, len - 1, back, CE_NUMBERS, bytes, sizeof bytes));
-    printf("short buffer: refusal %llu\n", (unsigned long long)ce_packet_write(numbers, CE_NUMBERS, data, sizeof data, text, len - 1, 0, &len));
+    /* A text that is cut short is refused, and so are a buffer that is one byte short and a mark of an entry that the
+       bitmap does not have. */
+    show_refusal("cut text", ce_packet_read(text, sizeof text, len - 1, back, CE_NUMBERS, bytes, sizeof bytes));
+    show_refusal("short buffer", ce_packet_write(numbers, CE_NUMBERS, data, sizeof data, text, len - 1, 0, &len));
+    const uint64_t stray[CE_NUMBERS] = {1, 0, 3, 2, 5};
+    show_refusal("stray mark", ce_packet_write(stray, CE_NUMBERS, data, sizeof data, text, sizeof text, 0, &len));
     return 0;
 }
 
@@ -53,13 +63,14 @@ static int pipeline(void)
     for (int i = 0; i < PIPELINE_NUMBERS; i++)
         if (back[i] != numbers[i])
             return 1;
-    printf("transaction %llu, %s, nack %llu, sender %llu, piggyback of %llu: %s\n", (unsigned long long)back[PIPELINE_TRANSACTION_ID],
-           phases[back[PIPELINE_STATE]], (unsigned long long)back[PIPELINE_NACK_TX_ID], (unsigned long long)back[PIPELINE_SENDER],
-           (unsigned long long)back[PIPELINE_PIGGYBACK_TX], phases[back[PIPELINE_PIGGYBACK_STATE]]);
+    printf("transaction %" PRIu64 ", %s, nack %" PRIu64 ", sender %" PRIu64 ", piggyback of %" PRIu64 ": %s\n",
+           back[PIPELINE_TRANSACTION_ID], phases[back[PIPELINE_STATE]], back[PIPELINE_NACK_TX_ID],
+           back[PIPELINE_SENDER], back[PIPELINE_PIGGYBACK_TX], phases[back[PIPELINE_PIGGYBACK_STATE]]);
     return 0;
 }
 
-/* Position 0 of two proposes, and position 1, which held nothing, merges what it hears: all votes are in, so it commits. */
+/* Position 0 of two proposes, and position 1, which held nothing, merges what it hears: all votes are in, so it
+   commits. */
 static int merge(void)
 {
     uint8_t sent[CE_LONGEST], held[CE_LONGEST];
@@ -69,10 +80,10 @@ static int merge(void)
     show_text(sent, sent_len);
     if (ce_packet_merge(held, sizeof held, &held_len, sent, sizeof sent, sent_len, 2, 1, 0.0, 0, &news) != 0)
         return 1;
-    printf("news: %llu\n", (unsigned long long)news);
+    printf("news: %" PRIu64 "\n", news);
     show_text(held, held_len);
-    printf("position 2 of 2: refusal %llu\n",
-           (unsigned long long)ce_packet_merge(held, sizeof held, &held_len, sent, sizeof sent, sent_len, 2, 2, 0.0, 0, &news));
+    show_refusal("position 2 of 2",
+                 ce_packet_merge(held, sizeof held, &held_len, sent, sizeof sent, sent_len, 2, 2, 0.0, 0, &news));
     return 0;
 }
 

@@ -11,7 +11,7 @@ use borrow.Author.Tests.{lt-ltb, le-leb}
 use Rattle.loops.specs.Pick.{either}
 use Rattle.texts.specs.Decimal.{decimal}
 use Rattle.texts.specs.Readers.{listText}
-use Rattle.packets.specs.Packets.{limits, phaseText, dataText, ceText, ceWithin}
+use Rattle.packets.specs.Packets.{mostBytes, limits, phaseText, dataText, ceText, ceWithin}
 use Rattle.packets.specs.Writing.{textLen, dataLen, bitmapLen, partsLen}
 use Rattle.packets.specs.declared.Bitmap.{Bitmap}
 use Rattle.packets.specs.declared.CeTwoPcPacket.{CeTwoPcPacket}
@@ -44,7 +44,7 @@ unfolding limits dataLen partsLen
 parts-is p small =
     let d : Data = p .«proposal_data» in
     let b : Bitmap = p .«flags_bitmap» in
-    by-limits (leb (b .len) 64) (leb (d .len) 32) (length (dataText d)) (length (ceText p))
+    by-limits (leb (b .len) 64) (leb (d .len) mostBytes) (length (dataText d)) (length (ceText p))
     (51 + length (decimal (p .term)) + length (phaseText (p .phase))) (bitmapLen b)
     (data-some d)
     (rw (← bitmap-len-is b) (ce-length p))

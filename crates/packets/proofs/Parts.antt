@@ -20,7 +20,7 @@ use Rattle.texts.specs.NumberLaws.{num-reads, digit-first}
 use Rattle.texts.specs.ListLaws.{Every, every-all, Listed, list-sound, list-complete}
 use Rattle.texts.specs.Stores.{storeMark, storeByte}
 use Rattle.texts.specs.StoreLaws.{wordOf, marks-of-word, word-lt, word-of-marks, stored-word, stored-bytes}
-use Rattle.packets.specs.Packets.{phaseText, bitmapText, dataText, txText, stateText, ValidBitmap, ValidData, ValidTx}
+use Rattle.packets.specs.Packets.{mostBytes, phaseText, bitmapText, dataText, txText, stateText, ValidBitmap, ValidData, ValidTx}
 use Rattle.packets.specs.Reading.{phaseAt, bitmapOf, bitmapAt, dataOf, dataAt, txAt, stateAt}
 use Rattle.packets.specs.declared.TwoPcPhase.{TwoPcPhase}
 use Rattle.packets.specs.declared.TwoPcPhase.the-variants.{Prepare, Committed, Aborted}
@@ -102,18 +102,18 @@ decimals-open n x = digit-first n 93 [] x refl
 abbrev byte-reads : Reads (numAt 256) decimal (λ n. n < 256)
 byte-reads = num-reads 256 (omega arith)
 
-bytes-sound : (s : List ℕ) (at : ℕ) (w : ℕ × List ℕ) (n : ℕ) → listAt (numAt 256) storeByte 32 zeros s at ≡ got w n → Has s at (dataText (dataOf w)) n × ValidData (dataOf w)
+bytes-sound : (s : List ℕ) (at : ℕ) (w : ℕ × List ℕ) (n : ℕ) → listAt (numAt 256) storeByte mostBytes zeros s at ≡ got w n → Has s at (dataText (dataOf w)) n × ValidData (dataOf w)
 unfolding dataText
-bytes-sound s at w n h = of (list-sound byte-reads storeByte 32 zeros s at w n h)
+bytes-sound s at w n h = of (list-sound byte-reads storeByte mostBytes zeros s at w n h)
   where
-    of : Listed byte-reads storeByte 32 zeros s at w n → Has s at (listText decimal (take (w .0) (w .1))) n × ValidData (dataOf w)
+    of : Listed byte-reads storeByte mostBytes zeros s at w n → Has s at (listText decimal (take (w .0) (w .1))) n × ValidData (dataOf w)
     of l =
         let xs : List ℕ = l .items in
         let st : stored storeByte 0 xs zeros ≡ written zeros 0 xs = stored-bytes xs 0 zeros (omega (arith, l .bounded)) in
         let e : take (length xs) (stored storeByte 0 xs zeros) ≡ xs = ap (take (length xs)) st ∙ front xs in
         subst (λ (v : ℕ × List ℕ). Has s at (listText decimal (take (v .0) (v .1))) n × ValidData (dataOf v)) (l .value) (
           has-as (ap (listText decimal) (sym e)) (l .has),
-          record { atMost32 = l .bounded; small = subst (Every (λ x. x < 256)) (sym e) (l .may); zeros = st ∙ ap (written zeros 0) (sym e) },
+          record { atMost32 = omega (arith, l .bounded); small = subst (Every (λ x. x < 256)) (sym e) (l .may); zeros = st ∙ ap (written zeros 0) (sym e) },
         )
 
 -- a valid array has its 32 bytes
@@ -125,12 +125,12 @@ full d v =
     length-take-le (d .len) (d .bytes) (omega (arith, v .atMost32))
 
 bytes-complete : (s : List ℕ) (at : ℕ) (w : ℕ × List ℕ) (n : ℕ) → Has s at (dataText (dataOf w)) n → ValidData (dataOf w) → headDigit (drop n s) ≡ false
-    → listAt (numAt 256) storeByte 32 zeros s at ≡ got w n
+    → listAt (numAt 256) storeByte mostBytes zeros s at ≡ got w n
 unfolding dataText
 bytes-complete s at w n h v d =
     let xs : List ℕ = take (w .0) (w .1) in
     let l : length xs ≡ w .0 = full (dataOf w) v in
-    list-complete byte-reads storeByte decimals-open xs 32 zeros s at n (v .small) (omega (arith, v .atMost32)) h
+    list-complete byte-reads storeByte decimals-open xs mostBytes zeros s at n (v .small) (omega (arith, v .atMost32)) h
     ∙ ap₂ (λ (x : ℕ) (y : List ℕ). got (x, y) n) l (stored-bytes xs 0 zeros (omega (arith, v .atMost32)) ∙ sym (v .zeros))
 
 pub data-reads : Reads dataAt dataText ValidData

@@ -50,7 +50,7 @@ use Rattle.packets.specs.Values.{phaseName, numValue, phaseValue, bitmap
 use Rattle.packets.specs.Promises.{Promises, CePromises, PipelinePromises}
 use Rattle.packets.proofs.Parts.{phase-reads, bitmap-reads, data-reads, tx-reads, state-reads, full}
 use Rattle.packets.proofs.Texts.{bitmap-len-none, bitmap-len-more, marks-len-le}
-use Rattle.packets.proofs.Writes.{phase-le, bool-le, state-le, ce-length, pipeline-length}
+use Rattle.packets.proofs.Writes.{limits-valid, phase-le, bool-le, state-le, ce-length, pipeline-length}
 use Rattle.packets.specs.declared.TwoPcPhase.{TwoPcPhase}
 use Rattle.packets.specs.declared.TwoPcPhase.the-variants.{Prepare, Committed, Aborted}
 use Rattle.packets.specs.declared.Bitmap.{Bitmap}
@@ -201,6 +201,7 @@ ce-promises =
       back = λ p v. (ap (λ (r : CeRead). r .refusal) (ce-back p v), ap (λ (r : CeRead). r .packet) (ce-back p v));
       other = ce-other;
       one = λ p q v u e. ap (λ (r : CeRead). r .packet) (sym (ce-back p v) ∙ ap ceReadOf e ∙ ce-back q u);
+      fits = λ p v. limits-valid (v .bitmap) (v .bytes);
       short = ce-short;
     }
 
@@ -303,5 +304,6 @@ pipeline-promises =
       back = λ p v. (ap (λ (r : PipelineRead). r .refusal) (pipeline-back p v), ap (λ (r : PipelineRead). r .packet) (pipeline-back p v));
       other = pipeline-other;
       one = λ p q v u e. ap (λ (r : PipelineRead). r .packet) (sym (pipeline-back p v) ∙ ap pipelineReadOf e ∙ pipeline-back q u);
+      fits = λ p v. limits-valid (v .bitmap) (v .bytes);
       short = pipeline-short;
     }

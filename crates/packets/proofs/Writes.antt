@@ -1,20 +1,35 @@
 -- The limits, and what the writers answer in each case.
 -- Assumes nothing.
-use mathlib.Core.Path.{_≡_, refl, sym, ap, _∙_}
-use mathlib.Core.Bool.{Bool, true, false, _&&_}
+use mathlib.Core.Path.{_≡_, ap, _∙_}
+use mathlib.Core.Bool.{Bool, true, false}
 use mathlib.Core.List.{List}
 use Prim.Native.Nat.{ℕ, _+_, _≤_, _<_}
 use native.Mathlib.Omega.{arith}
 use lib.Dec.{leb}
 use lib.ListN.{length, length-append}
 use borrow.Author.Tests.{le-leb, lt-leb, leb-true}
+use Rattle.limits.specs.Limits.{bitmapEntries}
 use Rattle.limits.specs.Refusals.{badPacket, noFit}
-use Rattle.texts.specs.Put.{written, Put, Room}
+use Rattle.marks.specs.Sets.{and-true, true-and}
+use Rattle.texts.specs.Put.{Put, Room}
 use Rattle.texts.specs.Decimal.{decimal}
 use Rattle.texts.specs.Readers.{boolText}
-use Rattle.packets.specs.Packets.{limits, phaseText, bitmapText, dataText, txText, stateText, ceText, pipelineText}
+use Rattle.packets.specs.Packets.{
+  mostBytes,
+  limits,
+  phaseText,
+  bitmapText,
+  dataText,
+  txText,
+  stateText,
+  ceText,
+  pipelineText,
+  ValidBitmap,
+  ValidData,
+}
 use Rattle.packets.specs.Writing.{textLen, refused, wroteOf, leftOf}
-use Rattle.packets.specs.declared.Wrote.{Wrote}
+use Rattle.packets.specs.declared.Bitmap.{Bitmap}
+use Rattle.packets.specs.declared.Data.{Data}
 use Rattle.packets.specs.declared.TwoPcPhase.{TwoPcPhase}
 use Rattle.packets.specs.declared.TwoPcPhase.the-variants.{Prepare, Committed, Aborted}
 use Rattle.packets.specs.declared.PiggybackState.{PiggybackState}
@@ -24,11 +39,15 @@ use Rattle.packets.specs.declared.TwoPcPacket.{TwoPcPacket}
 
 pub limits-true : (a b : ℕ) → limits a b ≡ true → (a ≤ 64) × (b ≤ 32)
 unfolding limits
-limits-true a b h = go (leb a 64) refl h
-  where
-    go : (t : Bool) → leb a 64 ≡ t → (t && leb b 32) ≡ true → (a ≤ 64) × (b ≤ 32)
-    go true e k = (leb-true a 64 e, leb-true b 32 k)
-    go false e k = let z : _≡_ {A = ℕ} 0 1 = cc in absurd (omega arith)
+limits-true a b h =
+    let t = and-true (leb a bitmapEntries) (leb b mostBytes) h in
+    (leb-true a bitmapEntries (t .0), omega (arith, leb-true b mostBytes (t .1)))
+
+pub limits-valid : {b : Bitmap} {d : Data} → ValidBitmap b → ValidData d → limits (b .len) (d .len) ≡ true
+unfolding limits
+limits-valid {b} {d} v w =
+    true-and (leb (b .len) bitmapEntries) (leb (d .len) mostBytes)
+    (le-leb (b .len) bitmapEntries (v .atMost64)) (le-leb (d .len) mostBytes (omega (arith, w .atMost32)))
 
 -- within the limits what is measured is the text
 pub measured : (fine : Bool) (t : List ℕ) (r : ℕ) → fine ≡ true → r ≡ textLen fine t → r ≡ length t

@@ -123,9 +123,13 @@ pipelineText p =
     ++ (keyPiggybackState ++ (stateText (p .«piggyback_state»)
     ++ keyEnd)))))))))))))))))
 
--- refusal 9: a packet within the limits has at most 64 entries in its bitmap and at most 32 bytes of data
+-- refusal 9: a packet within the limits has at most 64 entries in its bitmap and at most 32 bytes of data, which is the
+-- most that is read and written
+abbrev pub mostBytes : ℕ
+mostBytes = dataBytes
+
 unfoldable pub limits : ℕ → ℕ → Bool
-limits entries bytes = leb entries bitmapEntries && leb bytes dataBytes
+limits entries bytes = leb entries bitmapEntries && leb bytes mostBytes
 
 abbrev pub ceWithin : CeTwoPcPacket → Bool
 ceWithin p = limits (p .«flags_bitmap» .len) (p .«proposal_data» .len)

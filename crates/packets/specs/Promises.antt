@@ -1,22 +1,25 @@
 -- What the packets layer promises of each family, in one record for both. The proofs are `proofs/Promises.antt`.
 -- Assumes nothing: these are statements.
 use mathlib.Core.Path.{_≡_}
+use mathlib.Core.Bool.{Bool, true}
 use mathlib.Core.List.{List}
 use Prim.Native.Nat.{ℕ, _≤_}
 use lib.ListN.{length}
 use Rattle.limits.specs.Refusals.{badPacket}
 use Rattle.texts.specs.Rfc8259.{Tree, Json}
-use Rattle.packets.specs.Packets.{ceText, pipelineText, ValidCe, ValidPipeline}
+use Rattle.packets.specs.Packets.{ceText, pipelineText, ceWithin, pipelineWithin, ValidCe, ValidPipeline}
 use Rattle.packets.specs.Reading.{ceReadOf, pipelineReadOf}
 use Rattle.packets.specs.Values.{ceValue, pipelineValue}
 use Rattle.packets.specs.declared.CeTwoPcPacket.{CeTwoPcPacket}
 use Rattle.packets.specs.declared.TwoPcPacket.{TwoPcPacket}
 
--- A family has packets P, their texts, the packets that a text stands for, what a text says, and a reader, which answers any text with a refusal and a packet.
+-- A family has packets P, their texts, the packets that a text stands for, the limits, what a text says, and a reader,
+-- which answers any text with a refusal and a packet.
 pub record Promises
     (P : Type 0)
     (text : P → List ℕ)
     (Valid : P → Type 0)
+    (within : P → Bool)
     (value : P → Tree)
     (refusal : List ℕ → ℕ)
     (packet : List ℕ → P)
@@ -35,12 +38,17 @@ pub record Promises
   pub other : (s : List ℕ) → ((p : P) → Valid p → s ≡ text p → ⊥) → refusal s ≡ badPacket
   -- no text stands for two packets; equal packets have equal texts as `text` is a function
   pub one : (p q : P) → Valid p → Valid q → text p ≡ text q → p ≡ q
+  -- it is within the limits, so a writer writes it where it fits
+  pub fits : (p : P) → Valid p → within p ≡ true
   -- the longest text
   pub short : (p : P) → Valid p → length (text p) ≤ longest
 
 abbrev pub CePromises : Type 0
-CePromises = Promises CeTwoPcPacket ceText ValidCe ceValue (λ s. ceReadOf s .refusal) (λ s. ceReadOf s .packet) 596
+CePromises =
+    Promises CeTwoPcPacket ceText ValidCe (λ p. ceWithin p) ceValue (λ s. ceReadOf s .refusal) (λ s. ceReadOf s .packet)
+    596
 
 abbrev pub PipelinePromises : Type 0
 PipelinePromises =
-    Promises TwoPcPacket pipelineText ValidPipeline pipelineValue (λ s. pipelineReadOf s .refusal) (λ s. pipelineReadOf s .packet) 758
+    Promises TwoPcPacket pipelineText ValidPipeline (λ p. pipelineWithin p) pipelineValue (λ s. pipelineReadOf s .refusal)
+    (λ s. pipelineReadOf s .packet) 758

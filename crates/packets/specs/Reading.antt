@@ -6,13 +6,14 @@ use mathlib.Core.List.{List, [], _∷_}
 use Prim.Native.Nat.{ℕ, _+_, _^_}
 use lib.Dec.{leb}
 use lib.ListN.{length, take, replicate}
-use Rattle.limits.specs.Limits.{bitmapEntries, dataBytes}
+use Rattle.limits.specs.Limits.{bitmapEntries}
 use Rattle.limits.specs.Refusals.{badPacket, noFit}
 use Rattle.loops.specs.Pick.{either}
 use Rattle.texts.specs.Literals.{litAt}
 use Rattle.texts.specs.Readers.{Found, got, bad, Reader, on, map, behind, both, whole, numAt, boolAt, orNull, listAt}
 use Rattle.texts.specs.Stores.{storeMark, storeByte}
 use Rattle.packets.specs.Packets.{
+  mostBytes,
   phaseText,
   keyTerm,
   keyPhase,
@@ -74,7 +75,7 @@ abbrev pub dataOf : ℕ × List ℕ → Data
 dataOf w = record { len = w .0; bytes = w .1 }
 
 unfoldable pub dataAt : Reader Data
-dataAt s at = map dataOf (listAt (numAt 256) storeByte dataBytes (replicate 32 0) s at)
+dataAt s at = map dataOf (listAt (numAt 256) storeByte mostBytes (replicate 32 0) s at)
 
 unfoldable pub txAt : Reader PiggybackTx
 txAt = orNull tx.Absent (λ s at. map tx.Present (numAt (2 ^ 64) s at))

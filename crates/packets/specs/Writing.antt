@@ -6,13 +6,13 @@ use mathlib.Core.List.{List}
 use Prim.Native.Nat.{ℕ, _+_, _-_, _*_}
 use lib.Dec.{leb, ltb, eqb}
 use lib.ListN.{length}
-use Rattle.limits.specs.Limits.{bitmapEntries, dataBytes}
+use Rattle.limits.specs.Limits.{bitmapEntries}
 use Rattle.limits.specs.Refusals.{badPacket, noFit}
 use Rattle.loops.specs.Pick.{either}
 use Rattle.marks.specs.Marks.{countOf}
 use Rattle.texts.specs.Put.{written}
 use Rattle.texts.specs.Decimal.{decimal}
-use Rattle.packets.specs.Packets.{phaseText, dataText}
+use Rattle.packets.specs.Packets.{mostBytes, phaseText, dataText}
 use Rattle.packets.specs.declared.TwoPcPhase.{TwoPcPhase}
 use Rattle.packets.specs.declared.Bitmap.{Bitmap}
 use Rattle.packets.specs.declared.Data.{Data}
@@ -24,7 +24,7 @@ textLen fine t = either fine (length t) 0
 
 -- the length of the data's text; data of too many bytes has none
 unfoldable pub dataLen : Data → ℕ
-dataLen d = textLen (leb (d .len) dataBytes) (dataText d)
+dataLen d = textLen (leb (d .len) mostBytes) (dataText d)
 
 -- the length of a bitmap's text, by how many marks it has: `false` is longer than `true` by one byte
 unfoldable pub bitmapLen : Bitmap → ℕ

@@ -9,11 +9,11 @@ use lib.Dec.{leb, ltb}
 use lib.ListN.{length, take, drop, getD}
 use lib.Seq.{take-at}
 use lib.Pow.{pow-mono}
-use borrow.Author.Tests.{eq-eqb, ne-eqb, le-leb, lt-leb, lt-ltb, leb-true, ltb-true}
+use borrow.Author.Tests.{eq-eqb, ne-eqb, le-leb, lt-leb, lt-ltb}
 use Rattle.limits.specs.Refusals.{noFit}
-use Rattle.marks.specs.Sets.{and-true, true-and}
+use Rattle.marks.specs.Sets.{and-true}
 use Rattle.texts.specs.Put.{written, Put}
-use Rattle.packets.specs.Packets.{limits, ValidBitmap, ValidData}
+use Rattle.packets.specs.Packets.{limits}
 use Rattle.packets.specs.Reading.{ceNo, ceRead, pipelineNo, pipelineRead}
 use Rattle.packets.specs.Writing.{wroteOf, leftOf}
 use Rattle.packets.proofs.Writes.{limits-true}
@@ -23,14 +23,11 @@ use Rattle.packets_c.specs.Console.{
   handed,
   sizesFit,
   ceFits,
-  piggybackFits,
   pipelineFits,
   askedWrote,
   askedLeft,
   nextOf,
 }
-use Rattle.packets.specs.declared.Bitmap.{Bitmap}
-use Rattle.packets.specs.declared.Data.{Data}
 use Rattle.packets.specs.declared.Wrote.{Wrote}
 
 -- refused: the slice is as it was; else it has the values in front
@@ -83,56 +80,24 @@ pub taken-back : (d t : List ℕ) → take (length t) (written d 0 t) ≡ t
 unfolding written
 taken-back d t = take-at t (drop (0 + length t) d) (length t) refl
 
--- a valid packet is within the limits
-pub valid-sizes : {b : Bitmap} {d : Data} → ValidBitmap b → ValidData d → limits (b .len) (d .len) ≡ true
-unfolding limits
-valid-sizes {b} {d} v w =
-    true-and (leb (b .len) 64) (leb (d .len) 32) (le-leb (b .len) 64 (v .atMost64)) (le-leb (d .len) 32 (w .atMost32))
-
 -- a bitmap of 64 entries has one for every mark of a word
 pub all-fit : (entries marks : ℕ) → 64 ≤ entries → marks < 2 ^ 64 → true ≡ ltb marks (2 ^ entries)
 all-fit entries marks h k = sym (lt-ltb marks (2 ^ entries) (omega (arith, pow-mono h)))
 
--- what the tests on sizes say
-pub record Sized (entries bytes marks : ℕ) : Type 0 where
-  pub few : entries ≤ 64
-  pub small : bytes ≤ 32
-  pub known : marks < 2 ^ entries
-
-pub sized : (entries bytes marks : ℕ) → sizesFit entries bytes marks ≡ true → Sized entries bytes marks
-sized entries bytes marks h =
-    let a = and-true (limits entries bytes) (ltb marks (2 ^ entries)) h in
-    let b = limits-true entries bytes (a .0) in
-    record { few = b .0; small = b .1; known = ltb-true marks (2 ^ entries) (a .1) }
-
-pub record CeFit (m : List ℕ) : Type 0 where
-  pub phase : getD m 1 0 ≤ 2
-  pub sizes : Sized (getD m 3 0) (getD m 2 0) (getD m 4 0)
-
-pub ce-fit : (m : List ℕ) → ceFits m ≡ true → CeFit m
+-- so much data is asked for at most
+pub ce-small : (m : List ℕ) → ceFits m ≡ true → getD m 2 0 ≤ 32
 unfolding ceFits
-ce-fit m h =
+ce-small m h =
     let a = and-true (leb (getD m 1 0) 2) _ h in
-    record { phase = leb-true _ 2 (a .0); sizes = sized (getD m 3 0) (getD m 2 0) (getD m 4 0) (a .1) }
+    limits-true (getD m 3 0) (getD m 2 0) (and-true (limits (getD m 3 0) (getD m 2 0)) _ (a .1) .0) .1
 
-pub record PipelineFit (m : List ℕ) : Type 0 where
-  pub state : getD m 1 0 ≤ 2
-  pub abort : getD m 4 0 ≤ 1
-  pub sizes : Sized (getD m 2 0) (getD m 6 0) (getD m 3 0)
-  pub piggyback : piggybackFits (getD m 8 0) (getD m 9 0) (getD m 10 0) (getD m 11 0) ≡ true
-
-pub pipeline-fit : (m : List ℕ) → pipelineFits m ≡ true → PipelineFit m
+pub pipeline-small : (m : List ℕ) → pipelineFits m ≡ true → getD m 6 0 ≤ 32
 unfolding pipelineFits
-pipeline-fit m h =
+pipeline-small m h =
     let a = and-true (leb (getD m 1 0) 2) _ h in
     let b = and-true (leb (getD m 4 0) 1) _ (a .1) in
     let c = and-true (sizesFit (getD m 2 0) (getD m 6 0) (getD m 3 0)) _ (b .1) in
-    record {
-      state = leb-true _ 2 (a .0);
-      abort = leb-true _ 1 (b .0);
-      sizes = sized (getD m 2 0) (getD m 6 0) (getD m 3 0) (c .0);
-      piggyback = c .1;
-    }
+    limits-true (getD m 2 0) (getD m 6 0) (and-true (limits (getD m 2 0) (getD m 6 0)) _ (c .0) .0) .1
 
 -- what a write answers and leaves: the numbers ask for no packet, the writer refuses it, or it is written
 module _ (fine : Bool) (t d : List ℕ) (at k old : ℕ) where

@@ -42,15 +42,14 @@ use Rattle.packets_c.specs.Console.{
 }
 use Rattle.packets_c.specs.Back.{ceEntries, pipelineEntries, ReadBack, WrittenAgain}
 use Rattle.packets_c.proofs.Asked.{
-  valid-sizes,
-  CeFit,
-  ce-fit,
-  PipelineFit,
-  pipeline-fit,
   ce-as-read,
   pipeline-as-read,
 }
 use Rattle.packets_c.proofs.Numbered.{
+  CeFit,
+  ce-fit,
+  PipelineFit,
+  pipeline-fit,
   every-at,
   picked,
   pick,
@@ -242,7 +241,7 @@ ce-written-again text len n k d at e h =
     let g = ce-gave text len n k e in
     let r : at + length (ceText p) ≤ length d
     = omega (arith, ap length (g .whole), length-take-le len text (g .within)) in
-    let f = valid-sizes (g .valid .bitmap) (g .valid .bytes) in
+    let f = ce-promises .fits p (g .valid) in
     let w = take-it 0 (ceWithin p) (ceText p) d at refl f r in
     let o = ce-again p (g .valid) in
     (rw o (w .refusal), rw o (w .left ∙ ap (written d at) (sym (g .whole))))
@@ -377,7 +376,7 @@ pipeline-written-again text len n k d at e h =
     let g = pipeline-gave text len n k e in
     let r : at + length (pipelineText p) ≤ length d
     = omega (arith, ap length (g .whole), length-take-le len text (g .within)) in
-    let f = valid-sizes (g .valid .bitmap) (g .valid .bytes) in
+    let f = pipeline-promises .fits p (g .valid) in
     let w = take-it 0 (pipelineWithin p) (pipelineText p) d at refl f r in
     let o = pipeline-again p (g .valid) in
     (rw o (w .refusal), rw o (w .left ∙ ap (written d at) (sym (g .whole))))

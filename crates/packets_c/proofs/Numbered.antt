@@ -10,7 +10,7 @@ use lib.Dec.{leb, ltb, eqb}
 use lib.ListN.{length, take, drop, getD, replicate, length-take}
 use lib.Seq.{drop-cons, length-take-le}
 use mir.Val.{boolByte}
-use borrow.Author.Tests.{le-leb, leb-true, eqb-true, lt-ltb}
+use borrow.Author.Tests.{le-leb, leb-true, eqb-true, lt-ltb, ltb-true}
 use Rattle.loops.specs.Pick.{either}
 use Rattle.marks.specs.Sets.{and-true, true-and}
 use Rattle.texts.specs.Put.{written, length-written}
@@ -24,6 +24,7 @@ use Rattle.packets.specs.declared.PiggybackTx.{PiggybackTx}
 use Rattle.packets.specs.declared.PiggybackTx.the-variants as tx
 use Rattle.packets.specs.declared.PiggybackState.{PiggybackState}
 use Rattle.packets.specs.declared.PiggybackState.the-variants as state
+use Rattle.packets.proofs.Writes.{limits-true, limits-valid}
 use Rattle.packets_c.specs.Console.{
   phaseNumber,
   phaseNumbered,
@@ -35,10 +36,12 @@ use Rattle.packets_c.specs.Console.{
   stateNumbered,
   dataAsked,
   sizesFit,
+  ceFits,
   pairFits,
   piggybackFits,
+  pipelineFits,
 }
-use Rattle.packets_c.proofs.Asked.{taken-back, valid-sizes}
+use Rattle.packets_c.proofs.Asked.{taken-back}
 
 -- ---- lists
 pub every-take : {P : ℕ → Type 0} (n : ℕ) (l : List ℕ) → Every P l → Every P (take n l)
@@ -145,6 +148,53 @@ piggyback-fits t s =
     true-and (pairFits (txThere t) (txNumber t)) _ (tx-fits t)
     (true-and (pairFits (stateThere s) (stateNumber s)) _ (state-fits s) (le-leb _ 2 (state-small s)))
 
+-- ---- what the tests say of numbers that pass them
+pub record Sized (entries bytes marks : ℕ) : Type 0 where
+  pub few : entries ≤ 64
+  pub small : bytes ≤ 32
+  pub known : marks < 2 ^ entries
+
+sized : (entries bytes marks : ℕ) → limits entries bytes ≡ true → marks < 2 ^ entries → Sized entries bytes marks
+sized entries bytes marks h k =
+    let b = limits-true entries bytes h in
+    record { few = b .0; small = b .1; known = k }
+
+pub record CeFit (m : List ℕ) : Type 0 where
+  pub phase : getD m 1 0 ≤ 2
+  pub sizes : Sized (getD m 3 0) (getD m 2 0) (getD m 4 0)
+
+pub ce-fit : (m : List ℕ) → ceFits m ≡ true → CeFit m
+unfolding ceFits
+ce-fit m h =
+    let a = and-true (leb (getD m 1 0) 2) _ h in
+    let b = and-true (limits (getD m 3 0) (getD m 2 0)) _ (a .1) in
+    record {
+      phase = leb-true _ 2 (a .0);
+      sizes =
+          sized (getD m 3 0) (getD m 2 0) (getD m 4 0) (b .0) (ltb-true (getD m 4 0) (2 ^ getD m 3 0) (b .1));
+    }
+
+pub record PipelineFit (m : List ℕ) : Type 0 where
+  pub state : getD m 1 0 ≤ 2
+  pub abort : getD m 4 0 ≤ 1
+  pub sizes : Sized (getD m 2 0) (getD m 6 0) (getD m 3 0)
+  pub piggyback : piggybackFits (getD m 8 0) (getD m 9 0) (getD m 10 0) (getD m 11 0) ≡ true
+
+pub pipeline-fit : (m : List ℕ) → pipelineFits m ≡ true → PipelineFit m
+unfolding pipelineFits
+pipeline-fit m h =
+    let a = and-true (leb (getD m 1 0) 2) _ h in
+    let b = and-true (leb (getD m 4 0) 1) _ (a .1) in
+    let c = and-true (sizesFit (getD m 2 0) (getD m 6 0) (getD m 3 0)) _ (b .1) in
+    let d = and-true (limits (getD m 2 0) (getD m 6 0)) _ (c .0) in
+    record {
+      state = leb-true _ 2 (a .0);
+      abort = leb-true _ 1 (b .0);
+      sizes =
+          sized (getD m 2 0) (getD m 6 0) (getD m 3 0) (d .0) (ltb-true (getD m 3 0) (2 ^ getD m 2 0) (d .1));
+      piggyback = c .1;
+    }
+
 -- ---- data that is asked for is valid, and valid data is the data that it asks for
 pub data-valid : (bytes : List ℕ) (n : ℕ) → n ≤ 32 → n ≤ length bytes → Every (λ x. x < 256) bytes
     → ValidData (dataAsked bytes n)
@@ -171,5 +221,5 @@ data-room d v =
 -- the sizes of a valid packet fit
 pub sizes-fit : {b : Bitmap} {d : Data} → ValidBitmap b → ValidData d → sizesFit (b .len) (d .len) (b .marks) ≡ true
 sizes-fit {b} {d} v w =
-    true-and (limits (b .len) (d .len)) (ltb (b .marks) (2 ^ b .len)) (valid-sizes v w)
+    true-and (limits (b .len) (d .len)) (ltb (b .marks) (2 ^ b .len)) (limits-valid v w)
     (lt-ltb (b .marks) (2 ^ b .len) (v .marks-lt))

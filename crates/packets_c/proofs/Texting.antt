@@ -34,7 +34,7 @@ use Rattle.packets.proofs.Promises.{ce-promises}
 use Rattle.merges.proofs.Safety.{either-cases}
 use Rattle.merges.proofs.Growth.{told-apart, redundant-keeps}
 use Rattle.merges.proofs.Limits.{merges-valid}
-use Rattle.packets_c.proofs.Asked.{taken-back, valid-sizes}
+use Rattle.packets_c.proofs.Asked.{taken-back}
 
 -- it is a refusal
 no-fit : _≡_ {A = ℕ} noFit 0 → ⊥
@@ -122,7 +122,7 @@ module _ (p : CeTwoPcPacket) (s : ValidCe p) (local : List ℕ) (len was : ℕ) 
 
   rewritten-made : rewritten local len was p ≡ Made (leb (0 + length (ceText p)) (length local))
   unfolding rewritten wroteOf leftOf
-  rewritten-made = rw (valid-sizes (s .bitmap) (s .bytes))
+  rewritten-made = rw (ce-promises .fits p s)
 
   made-follows : (b : Bool) → leb (0 + length (ceText p)) (length local) ≡ b → Follows (Made b)
   made-follows true e = λ k. reread p s local (leb-true (0 + length (ceText p)) (length local) e)

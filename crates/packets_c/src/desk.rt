@@ -48,13 +48,13 @@ fn merge_refusal(n: usize, node_id: usize, cap: usize, len: usize, rcap: usize, 
         return refusals::BAD_POSITIONS;
     }
     if node_id >= n {
-        return refusals::NO_POSITION;
+        return refusals::NO_POSITION; // before any length
     }
     if len > cap {
-        return refusals::NO_FIT;
+        return refusals::NO_FIT; // the local text
     }
     if rlen > rcap {
-        return refusals::NO_FIT;
+        return refusals::NO_FIT; // the received text
     }
     0
 }

@@ -6,6 +6,7 @@ use borrow.Author.Needs.{needs}
 use borrow.Author.Tests.{not-true, not-false}
 use lib.ListN.{length, set, replicate, length-set}
 use Rattle.packets.proofs.Founds.{num-got, num-bad}
+use Rattle.packets.specs.Packets.{mostBytes}
 use Rattle.packets.specs.Reading.{dataOf, dataAt, dataFound}
 use Rattle.texts.specs.ListLaws.{turn-none, turn-bad, turn-last, turn-stop, turn-more, list-shut, list-empty, list-open}
 use Rattle.texts.specs.LiteralLaws.{lit-le}
@@ -16,10 +17,10 @@ use Rattle.packets.proofs.read.read_data.Statement.{statement}
 use Rattle.packets.proofs.read.read_data.Tie as tie
 
 abbrev Inv-loop : tie.InvT-loop
-Inv-loop s at d₀ i₀ k₀ d i k = (k ≤ 32) × (length d ≡ 32) × (dataAt s at ≡ map dataOf (itemsAt (numAt 256) storeByte (32 - k) s i k d))
+Inv-loop s at d₀ i₀ k₀ d i k = (k ≤ mostBytes) × (length d ≡ 32) × (dataAt s at ≡ map dataOf (itemsAt (numAt 256) storeByte (mostBytes - k) s i k d))
 
 abbrev μ-loop : tie.MeasureT-loop
-μ-loop s at d₀ i₀ k₀ d i k = 32 - k
+μ-loop s at d₀ i₀ k₀ d i k = mostBytes - k
 
 byte-at-requires : tie.Need-byte-at-requires Inv-loop μ-loop
 byte-at-requires c κs = search needs
@@ -29,7 +30,7 @@ no-data-requires c κs = search needs
 
 returns : tie.Need-returns Inv-loop μ-loop
 unfolding dataAt map
-returns c = c .no-data .ensures ∙ ap dataFound (sym (ap (map dataOf) (list-shut (numAt 256) storeByte 32 (replicate 32 0) (c .before .before .before .before .args .s .now) (c .before .before .before .before .args .at) (sym (c .before .before .byte-at .ensures) ∙ not-true _ (c .before .if1 .taken)))))
+returns c = c .no-data .ensures ∙ ap dataFound (sym (ap (map dataOf) (list-shut (numAt 256) storeByte mostBytes (replicate 32 0) (c .before .before .before .before .args .s .now) (c .before .before .before .before .args .at) (sym (c .before .before .byte-at .ensures) ∙ not-true _ (c .before .if1 .taken)))))
 
 add-byte-at : tie.Need-add-byte-at Inv-loop μ-loop
 add-byte-at c = omega (arith, lit-le (c .before .before .before .args .s .now) (c .before .before .before .args .at) (91 ∷ []) (sym (c .before .byte-at .ensures) ∙ not-false _ (c .if1 .left)) (omega arith))
@@ -45,14 +46,14 @@ got-data-requires c κs = search needs
 
 returns-2 : tie.Need-returns-2 Inv-loop μ-loop
 unfolding dataAt map
-returns-2 c = c .got-data .ensures ∙ ap dataFound (sym (ap (map dataOf) (list-empty (numAt 256) storeByte 32 (replicate 32 0) (c .before .before .before .before .before .before .args .s .now) (c .before .before .before .before .before .before .args .at) (sym (c .before .before .before .before .byte-at .ensures) ∙ not-false _ (c .before .before .before .if1 .left)) (sym (c .before .before .byte-at2 .ensures) ∙ c .before .if2 .taken))))
+returns-2 c = c .got-data .ensures ∙ ap dataFound (sym (ap (map dataOf) (list-empty (numAt 256) storeByte mostBytes (replicate 32 0) (c .before .before .before .before .before .before .args .s .now) (c .before .before .before .before .before .before .args .at) (sym (c .before .before .before .before .byte-at .ensures) ∙ not-false _ (c .before .before .before .if1 .left)) (sym (c .before .before .byte-at2 .ensures) ∙ c .before .if2 .taken))))
 
 add-i : tie.Need-add-i Inv-loop μ-loop
 add-i c = omega (arith, lit-le (c .before .before .before .before .before .args .s .now) (c .before .before .before .before .before .args .at) (91 ∷ []) (sym (c .before .before .before .byte-at .ensures) ∙ not-false _ (c .before .before .if1 .left)) (omega arith))
 
 loop-holds : tie.Need-loop-holds Inv-loop μ-loop
 unfolding dataAt map
-loop-holds c = (omega arith, refl, ap (map dataOf) (list-open (numAt 256) storeByte 32 (replicate 32 0) (c .before .before .before .before .before .args .s .now) (c .before .before .before .before .before .args .at) (sym (c .before .before .before .byte-at .ensures) ∙ not-false _ (c .before .before .if1 .left)) (sym (c .before .byte-at2 .ensures) ∙ c .if2 .left)))
+loop-holds c = (omega arith, refl, ap (map dataOf) (list-open (numAt 256) storeByte mostBytes (replicate 32 0) (c .before .before .before .before .before .args .s .now) (c .before .before .before .before .before .args .at) (sym (c .before .before .before .byte-at .ensures) ∙ not-false _ (c .before .before .if1 .left)) (sym (c .before .byte-at2 .ensures) ∙ c .if2 .left)))
 
 read-num-requires : tie.Need-read-num-requires Inv-loop μ-loop
 read-num-requires c κs = search needs
@@ -68,7 +69,7 @@ no-data-requires-2 c κs = search needs
 
 returns-3 : tie.Need-returns-3 Inv-loop μ-loop
 unfolding dataAt map
-returns-3 c = c .no-data2 .ensures ∙ ap dataFound (sym (c .before .before .before .before .before .loop .inv .2 ∙ ap (map dataOf) (turn-bad (numAt 256) storeByte 32 (c .before .before .before .before .before .before .before .before .before .before .before .args .s .now) (c .before .before .before .before .before .loop .i) (c .before .before .before .before .before .loop .k) (c .before .before .before .before .before .loop .d) (c .before .before .before .before .loop-test .taken) (num-bad _ (c .before .before .before .read-num .ensures) (c .before .enum-told .given .1)))))
+returns-3 c = c .no-data2 .ensures ∙ ap dataFound (sym (c .before .before .before .before .before .loop .inv .2 ∙ ap (map dataOf) (turn-bad (numAt 256) storeByte mostBytes (c .before .before .before .before .before .before .before .before .before .before .before .args .s .now) (c .before .before .before .before .before .loop .i) (c .before .before .before .before .before .loop .k) (c .before .before .before .before .before .loop .d) (c .before .before .before .before .loop-test .taken) (num-bad _ (c .before .before .before .read-num .ensures) (c .before .enum-told .given .1)))))
 
 cast-d : tie.Need-cast-d Inv-loop μ-loop
 cast-d c = omega (arith, num-reads 256 (omega arith) .sound (c .before .before .before .before .before .before .before .before .before .before .before .args .s .now) (c .before .before .before .before .before .loop .i) (c .before .value .given .0 .0) (c .before .value .given .0 .1 .0) (num-got _ (c .before .before .before .read-num .ensures) (c .before .value .given .1)) .1)
@@ -90,7 +91,7 @@ got-data-requires-2 c κs = search needs
 
 returns-4 : tie.Need-returns-4 Inv-loop μ-loop
 unfolding dataAt map
-returns-4 c = c .got-data2 .ensures ∙ ap dataFound (sym (c .before .before .before .before .before .before .before .before .loop .inv .2 ∙ ap (map dataOf) (turn-last (numAt 256) storeByte 32 (c .before .before .before .before .before .before .before .before .before .before .before .before .before .before .args .s .now) (c .before .before .before .before .before .before .before .before .loop .i) (c .before .before .before .before .before .before .before .before .loop .k) (c .before .before .before .before .before .before .before .before .loop .d) (c .before .before .before .before .before .before .before .loop-test .taken) (c .before .before .before .before .value .given .0 .0) (c .before .before .before .before .value .given .0 .1 .0) (num-got _ (c .before .before .before .before .before .before .read-num .ensures) (c .before .before .before .before .value .given .1)) (set (c .before .before .before .before .before .before .before .before .loop .d) (c .before .before .before .before .before .before .before .before .loop .k) (c .before .before .before .before .value .given .0 .0)) (refl) (sym (c .before .before .byte-at3 .ensures) ∙ c .before .if3 .taken))))
+returns-4 c = c .got-data2 .ensures ∙ ap dataFound (sym (c .before .before .before .before .before .before .before .before .loop .inv .2 ∙ ap (map dataOf) (turn-last (numAt 256) storeByte mostBytes (c .before .before .before .before .before .before .before .before .before .before .before .before .before .before .args .s .now) (c .before .before .before .before .before .before .before .before .loop .i) (c .before .before .before .before .before .before .before .before .loop .k) (c .before .before .before .before .before .before .before .before .loop .d) (c .before .before .before .before .before .before .before .loop-test .taken) (c .before .before .before .before .value .given .0 .0) (c .before .before .before .before .value .given .0 .1 .0) (num-got _ (c .before .before .before .before .before .before .read-num .ensures) (c .before .before .before .before .value .given .1)) (set (c .before .before .before .before .before .before .before .before .loop .d) (c .before .before .before .before .before .before .before .before .loop .k) (c .before .before .before .before .value .given .0 .0)) (refl) (sym (c .before .before .byte-at3 .ensures) ∙ c .before .if3 .taken))))
 
 byte-at-requires-4 : tie.Need-byte-at-requires-4 Inv-loop μ-loop
 byte-at-requires-4 c κs = search needs
@@ -100,7 +101,7 @@ no-data-requires-3 c κs = search needs
 
 returns-5 : tie.Need-returns-5 Inv-loop μ-loop
 unfolding dataAt map
-returns-5 c = c .no-data3 .ensures ∙ ap dataFound (sym (c .before .before .before .before .before .before .before .before .before .before .loop .inv .2 ∙ ap (map dataOf) (turn-stop (numAt 256) storeByte 32 (c .before .before .before .before .before .before .before .before .before .before .before .before .before .before .before .before .args .s .now) (c .before .before .before .before .before .before .before .before .before .before .loop .i) (c .before .before .before .before .before .before .before .before .before .before .loop .k) (c .before .before .before .before .before .before .before .before .before .before .loop .d) (c .before .before .before .before .before .before .before .before .before .loop-test .taken) (c .before .before .before .before .before .before .value .given .0 .0) (c .before .before .before .before .before .before .value .given .0 .1 .0) (num-got _ (c .before .before .before .before .before .before .before .before .read-num .ensures) (c .before .before .before .before .before .before .value .given .1)) (set (c .before .before .before .before .before .before .before .before .before .before .loop .d) (c .before .before .before .before .before .before .before .before .before .before .loop .k) (c .before .before .before .before .before .before .value .given .0 .0)) (refl) (sym (c .before .before .before .before .byte-at3 .ensures) ∙ c .before .before .before .if3 .left) (sym (c .before .before .byte-at4 .ensures) ∙ not-true _ (c .before .if4 .taken)))))
+returns-5 c = c .no-data3 .ensures ∙ ap dataFound (sym (c .before .before .before .before .before .before .before .before .before .before .loop .inv .2 ∙ ap (map dataOf) (turn-stop (numAt 256) storeByte mostBytes (c .before .before .before .before .before .before .before .before .before .before .before .before .before .before .before .before .args .s .now) (c .before .before .before .before .before .before .before .before .before .before .loop .i) (c .before .before .before .before .before .before .before .before .before .before .loop .k) (c .before .before .before .before .before .before .before .before .before .before .loop .d) (c .before .before .before .before .before .before .before .before .before .loop-test .taken) (c .before .before .before .before .before .before .value .given .0 .0) (c .before .before .before .before .before .before .value .given .0 .1 .0) (num-got _ (c .before .before .before .before .before .before .before .before .read-num .ensures) (c .before .before .before .before .before .before .value .given .1)) (set (c .before .before .before .before .before .before .before .before .before .before .loop .d) (c .before .before .before .before .before .before .before .before .before .before .loop .k) (c .before .before .before .before .before .before .value .given .0 .0)) (refl) (sym (c .before .before .before .before .byte-at3 .ensures) ∙ c .before .before .before .if3 .left) (sym (c .before .before .byte-at4 .ensures) ∙ not-true _ (c .before .if4 .taken)))))
 
 add-i-2 : tie.Need-add-i-2 Inv-loop μ-loop
 add-i-2 c = omega (arith, lit-le (c .before .before .before .before .before .before .before .before .before .before .before .before .before .before .before .args .s .now) (c .before .before .before .before .before .value .given .0 .1 .0) (44 ∷ []) (sym (c .before .byte-at4 .ensures) ∙ not-false _ (c .if4 .left)) (omega arith), c .before .before .before .before .before .before .before .before .before .before .before .before .before .before .before .good)
@@ -109,14 +110,14 @@ loop-less : tie.Need-loop-less Inv-loop μ-loop
 loop-less c = search needs
 
 loop-again : tie.Need-loop-again Inv-loop μ-loop
-loop-again c = (omega (arith, c .before .before .before .before .before .before .before .before .loop-test .taken), simp length-set (c .before .before .before .before .before .before .before .before .before .loop .inv .1), c .before .before .before .before .before .before .before .before .before .loop .inv .2 ∙ ap (map dataOf) (turn-more (numAt 256) storeByte 32 (c .before .before .before .before .before .before .before .before .before .before .before .before .before .before .before .args .s .now) (c .before .before .before .before .before .before .before .before .before .loop .i) (c .before .before .before .before .before .before .before .before .before .loop .k) (c .before .before .before .before .before .before .before .before .before .loop .d) (c .before .before .before .before .before .before .before .before .loop-test .taken) (c .before .before .before .before .before .value .given .0 .0) (c .before .before .before .before .before .value .given .0 .1 .0) (num-got _ (c .before .before .before .before .before .before .before .read-num .ensures) (c .before .before .before .before .before .value .given .1)) (set (c .before .before .before .before .before .before .before .before .before .loop .d) (c .before .before .before .before .before .before .before .before .before .loop .k) (c .before .before .before .before .before .value .given .0 .0)) (refl) (sym (c .before .before .before .byte-at3 .ensures) ∙ c .before .before .if3 .left) (sym (c .before .byte-at4 .ensures) ∙ not-false _ (c .if4 .left))))
+loop-again c = (omega (arith, c .before .before .before .before .before .before .before .before .loop-test .taken), simp length-set (c .before .before .before .before .before .before .before .before .before .loop .inv .1), c .before .before .before .before .before .before .before .before .before .loop .inv .2 ∙ ap (map dataOf) (turn-more (numAt 256) storeByte mostBytes (c .before .before .before .before .before .before .before .before .before .before .before .before .before .before .before .args .s .now) (c .before .before .before .before .before .before .before .before .before .loop .i) (c .before .before .before .before .before .before .before .before .before .loop .k) (c .before .before .before .before .before .before .before .before .before .loop .d) (c .before .before .before .before .before .before .before .before .loop-test .taken) (c .before .before .before .before .before .value .given .0 .0) (c .before .before .before .before .before .value .given .0 .1 .0) (num-got _ (c .before .before .before .before .before .before .before .read-num .ensures) (c .before .before .before .before .before .value .given .1)) (set (c .before .before .before .before .before .before .before .before .before .loop .d) (c .before .before .before .before .before .before .before .before .before .loop .k) (c .before .before .before .before .before .value .given .0 .0)) (refl) (sym (c .before .before .before .byte-at3 .ensures) ∙ c .before .before .if3 .left) (sym (c .before .byte-at4 .ensures) ∙ not-false _ (c .if4 .left))))
 
 no-data-requires-4 : tie.Need-no-data-requires-4 Inv-loop μ-loop
 no-data-requires-4 c κs = search needs
 
 returns-6 : tie.Need-returns-6 Inv-loop μ-loop
 unfolding dataAt map
-returns-6 c = c .no-data4 .ensures ∙ ap dataFound (sym (c .before .before .loop .inv .2 ∙ ap (map dataOf) (turn-none (numAt 256) storeByte 32 (c .before .before .before .before .before .before .before .before .args .s .now) (c .before .before .loop .i) (c .before .before .loop .k) (c .before .before .loop .d) (c .before .loop-test .left))))
+returns-6 c = c .no-data4 .ensures ∙ ap dataFound (sym (c .before .before .loop .inv .2 ∙ ap (map dataOf) (turn-none (numAt 256) storeByte mostBytes (c .before .before .before .before .before .before .before .before .args .s .now) (c .before .before .loop .i) (c .before .before .loop .k) (c .before .before .loop .d) (c .before .loop-test .left))))
 
 pub read-data-spec : {M : Type 1} → statement M
 read-data-spec =

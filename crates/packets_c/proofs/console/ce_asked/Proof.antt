@@ -2,7 +2,7 @@ use mathlib.Core.Path.{sym, _∙_}
 use borrow.Author.Tests.{le-leb, lt-leb, not-true, not-false}
 use borrow.Author.Needs.{needs}
 use Rattle.packets_c.specs.Console.{ceAsked}
-use Rattle.packets_c.proofs.Asked.{ce-fit}
+use Rattle.packets_c.proofs.Asked.{ce-small}
 use Rattle.packets_c.proofs.console.ce_asked.Statement.{statement}
 use Rattle.packets_c.proofs.console.ce_asked.Tie as tie
 
@@ -49,6 +49,6 @@ ce-asked-spec =
     (λ c κs. search needs)
     (λ c κs. search needs)
     returns-3
-    (λ c κs. (ce-fit _ (sym (c .before .ce-fits .ensures) ∙ not-false _ (c .if3 .left)) .sizes .small, c .before .before .if2 .left))
+    (λ c κs. (ce-small _ (sym (c .before .ce-fits .ensures) ∙ not-false _ (c .if3 .left)), c .before .before .if2 .left))
     (λ c κs. search needs)
     returns-4)

@@ -2,7 +2,7 @@ use mathlib.Core.Path.{sym, _∙_}
 use borrow.Author.Tests.{le-leb, lt-leb, not-true, not-false}
 use borrow.Author.Needs.{needs}
 use Rattle.packets_c.specs.Console.{pipelineAsked}
-use Rattle.packets_c.proofs.Asked.{pipeline-fit}
+use Rattle.packets_c.proofs.Asked.{pipeline-small}
 use Rattle.packets_c.proofs.console.pipeline_asked.Statement.{statement}
 use Rattle.packets_c.proofs.console.pipeline_asked.Tie as tie
 
@@ -49,6 +49,6 @@ pipeline-asked-spec =
     (λ c κs. search needs)
     (λ c κs. search needs)
     returns-3
-    (λ c κs. (pipeline-fit _ (sym (c .before .pipeline-fits .ensures) ∙ not-false _ (c .if3 .left)) .sizes .small, c .before .before .if2 .left))
+    (λ c κs. (pipeline-small _ (sym (c .before .pipeline-fits .ensures) ∙ not-false _ (c .if3 .left)), c .before .before .if2 .left))
     (λ c κs. search needs)
     returns-4)

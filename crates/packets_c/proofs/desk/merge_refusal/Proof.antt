@@ -1,7 +1,6 @@
 use native.Mathlib.Omega.{arith}
-use borrow.Author.Tests.{lt-ltb, le-ltb, lt-leb, le-leb, eq-eqb, ne-eqb}
+use borrow.Author.Tests.{lt-ltb, le-ltb, lt-leb, le-leb}
 use Rattle.packets_c.specs.Desk.{refusalOf}
-use borrow.Author.Needs.{needs}
 use Rattle.packets_c.proofs.desk.merge_refusal.Statement.{statement}
 use Rattle.packets_c.proofs.desk.merge_refusal.Tie as tie
 
@@ -11,29 +10,57 @@ returns c = rw (c .if1 .taken)
 
 returns-2 : tie.Need-returns-2
 unfolding refusalOf
-returns-2 c = rw (lt-ltb 0 (c .before .before .args .n) (omega arith), lt-leb _ _ (c .if2 .taken))
+returns-2 c =
+    let a = c .before .before .args in
+    rw (
+      lt-ltb 0 (a .n) (omega arith),
+      lt-leb (a .n) 64 (omega arith),
+    )
 
 returns-3 : tie.Need-returns-3
 unfolding refusalOf
-returns-3 c = rw (lt-ltb 0 (c .before .before .before .args .n) (omega arith), le-leb (c .before .before .before .args .n) 64 (omega arith), le-ltb _ _ (c .if3 .taken))
+returns-3 c =
+    let a = c .before .before .before .args in
+    rw (
+      lt-ltb 0 (a .n) (omega arith),
+      le-leb (a .n) 64 (omega arith),
+      le-ltb (a .node-id) (a .n) (omega arith),
+    )
 
 returns-4 : tie.Need-returns-4
 unfolding refusalOf
-returns-4 c = rw (lt-ltb 0 (c .before .before .before .before .args .n) (omega arith), le-leb (c .before .before .before .before .args .n) 64 (omega arith), lt-ltb _ _ (c .before .if3 .left), lt-leb _ _ (c .if4 .taken))
+returns-4 c =
+    let a = c .before .before .before .before .args in
+    rw (
+      lt-ltb 0 (a .n) (omega arith),
+      le-leb (a .n) 64 (omega arith),
+      lt-ltb (a .node-id) (a .n) (omega arith),
+      lt-leb (a .len) (a .cap) (omega arith),
+    )
 
 returns-5 : tie.Need-returns-5
 unfolding refusalOf
-returns-5 c = rw (lt-ltb 0 (c .before .before .before .before .before .args .n) (omega arith), le-leb (c .before .before .before .before .before .args .n) 64 (omega arith), lt-ltb _ _ (c .before .before .if3 .left), le-leb _ _ (c .before .if4 .left), lt-leb _ _ (c .if5 .taken))
+returns-5 c =
+    let a = c .before .before .before .before .before .args in
+    rw (
+      lt-ltb 0 (a .n) (omega arith),
+      le-leb (a .n) 64 (omega arith),
+      lt-ltb (a .node-id) (a .n) (omega arith),
+      le-leb (a .len) (a .cap) (omega arith),
+      lt-leb (a .rlen) (a .rcap) (omega arith),
+    )
 
 returns-6 : tie.Need-returns-6
 unfolding refusalOf
-returns-6 c = rw (lt-ltb 0 (c .before .before .before .before .before .args .n) (omega arith), le-leb (c .before .before .before .before .before .args .n) 64 (omega arith), lt-ltb _ _ (c .before .before .if3 .left), le-leb _ _ (c .before .if4 .left), le-leb _ _ (c .if5 .left))
+returns-6 c =
+    let a = c .before .before .before .before .before .args in
+    rw (
+      lt-ltb 0 (a .n) (omega arith),
+      le-leb (a .n) 64 (omega arith),
+      lt-ltb (a .node-id) (a .n) (omega arith),
+      le-leb (a .len) (a .cap) (omega arith),
+      le-leb (a .rlen) (a .rcap) (omega arith),
+    )
 
 pub merge-refusal-spec : {M : Type 1} → statement M
-merge-refusal-spec = tie.close (tie.spec
-    returns
-    returns-2
-    returns-3
-    returns-4
-    returns-5
-    returns-6)
+merge-refusal-spec = tie.close (tie.spec returns returns-2 returns-3 returns-4 returns-5 returns-6)
