@@ -128,8 +128,8 @@ STATED = [
     ("length 0 of nothing", CAPTURE, "", 0, "refusal 9"),
     ("greatest stated length", PIPELINE, "x", TOP, "refusal 10"),
 ]
-# A buffer that the text fills, one that is a byte short, and places at and behind the end; then packets outside the limits, which have no text,
-# and marks and bytes behind the lengths, which are not written. Family, data, size, place, numbers, answer.
+# A buffer that the text fills, one that is a byte short, and places at and behind the end; data behind its length, which is not written; then
+# numbers that no packet has: outside the limits, stray marks, numbers beside a piggyback that is absent. Family, data, size, place, numbers, answer.
 SMALL = "1 0 3 2 1"  # the numbers of ce()
 WRITTEN = [
     ("buffer just full", CAPTURE, b"tx1", 85, 0, SMALL, f"85 {ce()}"),
@@ -140,8 +140,16 @@ WRITTEN = [
     ("greatest place", CAPTURE, b"tx1", 90, TOP, SMALL, "refusal 10 " + "." * 90),
     ("bitmap of 65", CAPTURE, b"tx1", 8, 0, "1 0 3 65 1", "refusal 9 " + "." * 8),
     ("data of 33", CAPTURE, b"tx1" + bytes(30), 8, 0, "1 0 33 1 6", "refusal 9 " + "." * 8),
-    ("what lies behind the lengths", CAPTURE, b"tx1", 75, 1, "1 0 1 1 6", f'74 .{ce(data="[116]", flags="[false]")}.'),
+    ("data behind its length", CAPTURE, b"tx1", 75, 1, "1 0 1 1 0", f'74 .{ce(data="[116]", flags="[false]")}.'),
+    ("all 64 marks", CAPTURE, b"", 384, 0, f"1 0 0 64 {TOP}", f'{len(ce(data="[]", flags=listed(64, "true")))} {ce(data="[]", flags=listed(64, "true"))}'),
+    ("stray mark", CAPTURE, b"tx1", 75, 1, "1 0 1 1 2", "refusal 9 " + "." * 75),
+    ("stray mark of no entries", CAPTURE, b"", 75, 1, "0 0 0 0 1", "refusal 9 " + "." * 75),
+    ("highest stray mark", CAPTURE, b"", 75, 1, f"1 0 0 63 {2**63}", "refusal 9 " + "." * 75),
+    ("stray mark and too little data", CAPTURE, b"tx", 75, 1, "1 0 3 1 2", "refusal 10 " + "." * 75),
     ("pipeline packet", PIPELINE, b"", 175, 1, "0 0 0 0 0 0 0 0 0 0 1 1", f"""174 .{pipe(after='"Committed"')}."""),
+    ("pipeline stray mark", PIPELINE, b"", 175, 1, "0 0 3 8 0 0 0 0 0 0 0 0", "refusal 9 " + "." * 175),
+    ("number of no piggyback", PIPELINE, b"", 175, 1, "0 0 0 0 0 0 0 0 0 7 0 0", "refusal 9 " + "." * 175),
+    ("phase of no piggyback", PIPELINE, b"", 175, 1, "0 0 0 0 0 0 0 0 0 0 0 1", "refusal 9 " + "." * 175),
 ]
 
 

@@ -896,7 +896,6 @@ mod comparison {
     use super::*;
     use crate::tally::Tally;
     use crate::{time, Options};
-    use std::collections::BTreeSet;
 
     const WAS: u64 = 0xA5A5_A5A5_A5A5_A5A5;
     const WAS_BYTE: u8 = 0xA5;
@@ -1123,57 +1122,57 @@ mod comparison {
         }
     }
 
-    /// What the signatures leave open is shown and not judged, but that a refusal touches nothing.
-    fn open_cases<F: Family>(t: &mut Tally, r: &mut Prng) {
-        let mut seen: BTreeMap<&str, BTreeSet<u64>> = BTreeMap::new();
-        for _ in 0..500 {
+    /// Numbers that no packet has (9), lists that are too short (10, before 9), and a list of just as many data bytes as are stated.
+    fn odd_numbers<F: Family>(t: &mut Tally, r: &mut Prng) {
+        for _ in 0..2000 {
             let bitmap = r.index(BITMAP);
             let p = F::random(r, bitmap, 3);
-            let good = F::numbers(&p);
-            let (mut n, mut data_cap) = (good.clone(), DATA);
-            let what = match r.below(6) {
+            let (mut n, mut data) = (F::numbers(&p), F::lists(&p).1.to_vec());
+            let size = if r.chance(1, 2) { 3 + r.index(30) } else { 3 };
+            data.resize(size, 7);
+            let (what, mut due) = match r.below(6) {
                 0 => {
                     n[F::MARKS] |= 1 << (bitmap + r.index(BITMAP - bitmap));
-                    "marks beyond the bitmap's length"
+                    ("a mark at or above the bitmap's length", 9)
                 }
                 1 => {
                     n.truncate(r.index(F::NUMBERS));
-                    "too few numbers"
+                    ("too few numbers", 10)
                 }
-                2 => {
-                    data_cap = r.index(3);
-                    "fewer data bytes lent than stated"
-                }
-                3 => {
-                    data_cap = 3 + r.index(29);
-                    "fewer than 32 data bytes lent, but as many as stated"
-                }
+                2 => ("as many data bytes lent as stated, or more", 0),
                 _ if F::NUMBERS < 12 => continue,
-                4 => {
+                3 => {
                     n[*r.pick(&[4, 8, 10])] = 2 + r.below(300);
-                    "a yes or no that is neither 0 nor 1"
+                    ("a yes or no that is neither 0 nor 1", 9)
+                }
+                4 => {
+                    (n[8], n[9]) = (0, r.number().max(1));
+                    ("a number beside an absent piggyback_tx", 9)
                 }
                 _ => {
-                    let k = *r.pick(&[8, 10]);
-                    (n[k], n[k + 1]) = (0, 1 + r.below(2));
-                    "an absent piggyback with a value"
+                    (n[10], n[11]) = (0, 1 + r.below(4));
+                    ("a phase beside an absent piggyback_state", 9)
                 }
             };
-            let buf = vec![WAS_BYTE; 1000];
-            let got = write::<F>(&n, &vec![7; data_cap], &buf, 3);
-            seen.entry(what).or_default().insert(got.0);
-            if got.0 != 0 {
-                t.same(
-                    &format!("{} written, refused", F::NAME),
-                    1,
-                    || format!("{what}: numbers {n:?}, {data_cap} data bytes"),
-                    &(got.1, got.2),
-                    &(Text(buf), WAS),
-                );
+            if r.chance(1, 4) {
+                data.truncate(r.index(3));
+                due = 10;
             }
-        }
-        for (what, answers) in seen {
-            println!("packets: {} writer, {what}: answers {answers:?} (not judged)", F::NAME);
+            let buf = vec![WAS_BYTE; 1000];
+            let mut left = buf.clone();
+            let mut next = WAS;
+            if due == 0 {
+                let text = F::text(&p);
+                next = 3 + text.len() as u64;
+                left[3..3 + text.len()].copy_from_slice(&text);
+            }
+            t.same(
+                &format!("{} written, {what}", F::NAME),
+                1,
+                || format!("numbers {n:?}, {} data bytes", data.len()),
+                &write::<F>(&n, &data, &buf, 3),
+                &(due, Text(left), next),
+            );
         }
     }
 
@@ -1219,7 +1218,7 @@ mod comparison {
             }
         }
         refusals::<F>(t, r);
-        open_cases::<F>(t, r);
+        odd_numbers::<F>(t, r);
     }
 
     fn timed<F: Family>(p: &F::Packet) {
