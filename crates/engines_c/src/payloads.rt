@@ -112,7 +112,7 @@ pub fn held_of(xs: &[u64], at: usize) -> [Payload; limits::POSITIONS]
 }
 
 // Bytes as numbers of 64 digits.
-fn widened(bytes: [u8; limits::DATA]) -> [u64; limits::DATA]
+pub fn widened(bytes: [u8; limits::DATA]) -> [u64; limits::DATA]
     ensures { λ r. ⌜ r ≡ bytes ⌝ }
 {
     let mut a = [0u64; limits::DATA];

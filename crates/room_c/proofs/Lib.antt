@@ -1,3 +1,4 @@
+pub mod Tabled
+pub mod Making
 pub mod Running
-pub mod Called
 pub mod Rounding

@@ -1,3 +1,3 @@
+pub mod Answers
 pub mod Console
-pub mod Calls
 pub mod Rounds
