@@ -55,9 +55,9 @@ module _ (ws : List ℕ) (i which a b c : ℕ) (w : Calling) where
 
   pub whole-read : {told : List ℕ} {floats : List Float} → 4 ≤ which → which < 18
       → (told ≡ sets (w .told) (i * 40)
-        (toldIn (said (answerOf (getD wholeReadings (which - 4) «proposal_outcome») (w .room)))))
+      (toldIn (said (answerOf (getD wholeReadings (which - 4) «proposal_outcome») (w .room)))))
       × (floats ≡ sets (w .floats) (i * 2)
-        (said (answerOf (getD wholeReadings (which - 4) «proposal_outcome») (w .room)) .floats))
+      (said (answerOf (getD wholeReadings (which - 4) «proposal_outcome») (w .room)) .floats))
       → Left (w .rows) told floats (w .text) (w .room)
   unfolding called callBy rowsLeft callSaid handed
   whole-read h g t =
@@ -65,7 +65,7 @@ module _ (ws : List ℕ) (i which a b c : ℕ) (w : Calling) where
 
   pub part-read : {told text : List ℕ} → 18 ≤ which → which < 24
       → (told ≡ sets (w .told) (i * 40)
-        (toldIn (said (answerOf (getD (partReadings (w .text) a b) (which - 18) («record» a)) (w .room)))))
+      (toldIn (said (answerOf (getD (partReadings (w .text) a b) (which - 18) («record» a)) (w .room)))))
       × (text ≡ said (answerOf (getD (partReadings (w .text) a b) (which - 18) («record» a)) (w .room)) .text (w .text))
       → Left (w .rows) told (w .floats) text (w .room)
   unfolding called callBy rowsLeft callSaid handed

@@ -83,9 +83,31 @@ Textless q = (r : Room) (t : List ℕ) → said (answerOf q r) .text t ≡ t
 pub whole-text : (k : ℕ) → Textless (getD wholeReadings k «proposal_outcome»)
 unfolding said answerOf
 whole-text k =
-    every-at Textless wholeReadings «proposal_outcome»
-    (λ r t. refl, (λ r t. refl, (λ r t. refl, (λ r t. refl, (λ r t. refl, (λ r t. refl, (λ r t. refl, (λ r t. refl,
-    (λ r t. refl, (λ r t. refl, (λ r t. refl, (λ r t. refl, (λ r t. refl, (λ r t. refl, tt))))))))))))))
+    every-at Textless wholeReadings «proposal_outcome» (
+      λ r t. refl,
+      (
+        λ r t. refl,
+        (
+          λ r t. refl,
+          (
+            λ r t. refl,
+            (
+              λ r t. refl,
+              (
+                λ r t. refl,
+                (
+                  λ r t. refl,
+                  (
+                    λ r t. refl,
+                    (λ r t. refl, (λ r t. refl, (λ r t. refl, (λ r t. refl, (λ r t. refl, (λ r t. refl, tt)))))),
+                  ),
+                ),
+              ),
+            ),
+          ),
+        ),
+      ),
+    )
     (λ r t. refl) k
 
 abbrev Floatless : Reading → Type 0

@@ -166,9 +166,13 @@ called i (some c) w =
 abbrev pub turn : List ℕ → List ℕ → ℕ → Calling → Calling
 turn ws calls i w = called i (callAt ws calls i w) w
 
--- all calls; fewer than four numbers at the end are none
-unfoldable pub play : List ℕ → List ℕ → Calling → Calling
-play ws calls w = upto (length calls / 4) (turn ws calls) w
+-- the first k calls, each on what the one before it left
+unfoldable pub playFirst : ℕ → List ℕ → List ℕ → Calling → Calling
+playFirst k ws calls w = upto k (turn ws calls) w
+
+-- all of them; fewer than four numbers at the end are none
+abbrev pub play : List ℕ → List ℕ → Calling → Calling
+play ws calls w = playFirst (length calls / 4) ws calls w
 
 -- ---- the account
 

@@ -3,7 +3,7 @@ use Prim.Native.Nat.{_≤_, _-_}
 use native.Mathlib.Omega.{arith}
 use lib.ListN.{length}
 use Rattle.loops.specs.Upto.{upto, upto-none, upto-turn, upto-all}
-use Rattle.room_c.specs.Console.{turn, play}
+use Rattle.room_c.specs.Console.{turn, playFirst}
 use borrow.Author.Needs.{needs}
 use Rattle.room_c.proofs.console.play_calls.Statement.{statement}
 use Rattle.room_c.proofs.console.play_calls.Tie as tie
@@ -22,7 +22,7 @@ abbrev μ-loop : tie.MeasureT-loop
 μ-loop words rows₀ calls told₀ floats₀ text₀ count r₀ i₀ rows told floats text r i = count - i
 
 returns : tie.Need-returns Inv-loop μ-loop
-unfolding play
+unfolding playFirst
 returns c =
     upto-all _ _ (c .before .loop .inv .0) (c .loop-test .left) (c .before .loop .inv .1 .1 .1 .1 .1)
 
