@@ -102,6 +102,7 @@ fn main() {
             "merge" => merges::sample(),
             "capture" => capture::sample(),
             "pipeline" => pipeline::sample(),
+            "room" => room::sample(),
             "frame" => frame::sample(),
             _ => usage(&format!("no sample of {part}")),
         }

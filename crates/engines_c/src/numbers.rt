@@ -148,7 +148,7 @@ pub fn nodes_of(xs: &[u64], at: usize) -> [Node; limits::POSITIONS]
     a
 }
 
-fn put_node(xs: &mut [u64], at: usize, k: usize, v: Node)
+pub fn put_node(xs: &mut [u64], at: usize, k: usize, v: Node)
     ensures { λ _. ⌜ now (xs .exit) ≡ sets (now (xs .entry)) (at + k) (nodeNumbers v) ⌝ }
 {
     let values = node_numbers(v);

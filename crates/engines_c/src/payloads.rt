@@ -176,7 +176,7 @@ pub fn held_fits(xs: &[u64], at: usize, n: usize) -> bool
 // ---- numbers put back
 
 // Bytes as numbers of 64 digits.
-fn widened(bytes: [u8; limits::DATA]) -> [u64; limits::DATA]
+pub fn widened(bytes: [u8; limits::DATA]) -> [u64; limits::DATA]
     ensures { λ r. ⌜ r ≡ bytes ⌝ }
 {
     let mut a = [0u64; limits::DATA];

@@ -1,3 +1,6 @@
+pub mod Tabled
+pub mod Making
 pub mod Running
+pub mod Putting
 pub mod Called
 pub mod Rounding

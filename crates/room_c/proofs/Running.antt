@@ -1,22 +1,22 @@
--- A run of the entry for differential runs: one whose opening is refused, and one whose calls are made.
+-- A run of the entry: one whose opening is refused, and one whose calls are made. Assumes nothing.
 use mathlib.Core.Path.{_≡_}
 use mathlib.Core.List.{List}
 use Prim.Native.Nat.{ℕ}
 use borrow.Author.Tests.{eq-eqb, ne-eqb}
+use lib.Ieee.{Float}
 use Rattle.room.specs.declared.room.Opening.{Opening}
-use Rattle.room_c.specs.declared.console.Told.{Told}
-use Rattle.room_c.specs.Console.{quiet, Calling, play, putTold, ended, runFrom}
+use Rattle.room_c.specs.Console.{Calling, play, putRoom, Run, ended, runFrom}
 
-pub run-refused :
-    (o : Opening) (ws calls rows out : List ℕ) → (o .refusal ≡ 0 → ⊥)
-    → record { answer = o .refusal; rows = rows; out = out } ≡ runFrom o ws calls rows out
-unfolding runFrom
-run-refused o ws calls rows out z = rw (ne-eqb (o .refusal) 0 z)
+module _ (o : Opening) (ws calls rows told : List ℕ) (floats : List Float) (text out : List ℕ) where
+  abbrev first : Calling
+  first = record { rows = rows; told = told; floats = floats; text = text; room = o .room }
 
-pub run-made :
-    {start : Told} {w : Calling} {ys : List ℕ} (o : Opening) (ws calls rows out : List ℕ) → o .refusal ≡ 0
-    → start ≡ quiet 0 0 0 0 (o .room)
-    → w ≡ play ws calls (record { rows = rows; told = start }) → ys ≡ putTold (w .told) out
-    → record { answer = w .told .refusal; rows = w .rows; out = ys } ≡ runFrom o ws calls rows out
-unfolding runFrom ended
-run-made o ws calls rows out z s e p = rw (eq-eqb (o .refusal) 0 z, ← s, ← e, p)
+  pub run-refused : (o .refusal ≡ 0 → ⊥)
+      → ended (o .refusal) first out ≡ runFrom o ws calls rows told floats text out
+  unfolding runFrom
+  run-refused z = rw (ne-eqb (o .refusal) 0 z)
+
+  pub run-made : {w : Calling} {ys : List ℕ} → o .refusal ≡ 0 → w ≡ play ws calls first → ys ≡ putRoom (w .room) out
+      → ended 0 w ys ≡ runFrom o ws calls rows told floats text out
+  unfolding runFrom
+  run-made z e p = rw (eq-eqb (o .refusal) 0 z, ← e, p)

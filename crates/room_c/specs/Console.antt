@@ -2,10 +2,11 @@
 -- lists of numbers, and its account as such a list. A place past the end reads as 0, and nothing is put there. Assumes
 -- nothing.
 use Prim.Native.Nat.{ℕ, _+_, _*_, _/_, _%_, _^_}
-use mathlib.Core.List.{List, [], _∷_}
+use mathlib.Core.List.{List, [], _∷_, _++_, map}
+use mathlib.Core.Option.{Option, none, some}
 use lib.Dec.{eqb}
 use lib.Ieee.{Float}
-use lib.ListN.{length, getD, replicate}
+use lib.ListN.{length, getD, set}
 use lib.Seq.{sets}
 use mir.Val.{boolByte}
 use Rattle.loops.specs.Pick.{either}
@@ -24,9 +25,33 @@ use Rattle.room.specs.declared.room.Room.{Room}
 use Rattle.room.specs.declared.room.Asked.{Asked}
 use Rattle.room.specs.declared.room.Opening.{Opening}
 use Rattle.room.specs.declared.room.RoundAnswer.{RoundAnswer}
-use Rattle.room_c.specs.declared.console.Told.{Told}
 use Rattle.room.specs.Rooms.{openOf, proposeOf, captureOf, captureBuffer, pipelineOf, pipelineBuffer}
-use Rattle.readings.specs.Readings.{textOf}
+use Rattle.readings.specs.Calls.{
+  Reading,
+  kind,
+  «num_nodes»,
+  settings,
+  slot,
+  «next_row»,
+  «bytes_sent»,
+  metrics,
+  «link_pdr»,
+  «flood_coverage»,
+  term,
+  round,
+  stopped,
+  initiator,
+  «proposal_outcome»,
+  node,
+  «packet_text»,
+  «log_len»,
+  «log_entry»,
+  pending,
+  «record»,
+  answerOf,
+}
+use Rattle.demand.specs.Calls.{Call, Propose, CaptureRound, PipelineRound, Read, handed}
+use Rattle.room_c.specs.Answers.{Said, plain, said, toldIn}
 
 -- ---- the opening
 
@@ -67,92 +92,121 @@ openingBy xs loss p links =
     let o = openOf (askedBy xs loss p (b .graph)) in
     record { refusal = orElse (b .refusal) (o .refusal); room = o .room }
 
--- ---- the calls
+-- ---- which call it is
 
--- what a call that leaves the room as it is tells
-abbrev pub quiet : ℕ → ℕ → ℕ → ℕ → Room → Told
-quiet k cursor used len r = record { refusal = k; cursor = cursor; used = used; len = len; room = r }
+-- the readings of the room as a whole, and those of a position or a place
+abbrev pub wholeReadings : List Reading
+wholeReadings =
+    kind ∷ «num_nodes» ∷ settings ∷ slot ∷ «next_row» ∷ «bytes_sent» ∷ metrics ∷ «link_pdr» ∷ «flood_coverage» ∷
+    term ∷ round ∷ stopped ∷ initiator ∷ «proposal_outcome» ∷ []
 
-unfoldable pub proposalTold : Room → ℕ → ℕ → ℕ → Told
-proposalTold r v cursor used = quiet (proposeOf r v .refusal) cursor used 0 (proposeOf r v .room)
+abbrev pub partReadings : List ℕ → ℕ → ℕ → List Reading
+partReadings text a b =
+    node a ∷ «packet_text» a text ∷ «log_len» a ∷ «log_entry» a b ∷ pending a b ∷ «record» a ∷ []
 
-unfoldable pub roundTold : RoundAnswer → Told
-roundTold a = quiet (a .refusal) (a .cursor) (a .used) 0 (a .room)
+-- The calls, each at the place that is its number: 0 none, 1 propose, 2 capture round, 3 pipeline round, from 4 on the
+-- readings of the whole room, from 18 on the others. Of its three arguments a is a position or a record's place, b a
+-- round's cursor, a log's place or a transaction, c the rows used.
+unfoldable pub callTable : List ℕ → List ℕ → List ℕ → ℕ → ℕ → ℕ → List (Option Call)
+callTable ws rows text a b c =
+    none ∷ some (Propose a) ∷ some (CaptureRound ws b rows c) ∷ some (PipelineRound ws b rows c) ∷
+    map (λ q. some (Read q)) (wholeReadings ++ partReadings text a b)
 
--- the text itself is not told; its buffer is longer than any packet's text
-unfoldable pub textTold : Room → ℕ → ℕ → ℕ → Told
-textTold r v cursor used =
-    let t = textOf r v (replicate 1024 0) in
-    quiet (t .refusal) cursor used (t .len) r
-
--- A buffer of rows, and the room that wrote to it.
+-- The lent lists that calls write to, and the room.
 pub record Calling : Type 0 where
   pub rows : List ℕ
-  pub told : Told
+  pub told : List ℕ
+  pub floats : List Float
+  pub text : List ℕ
+  pub room : Room
 
--- 1 propose, 2 capture round, 3 pipeline round, 4 the text of a position; any other number is no call
-unfoldable pub callOf : List ℕ → ℕ → ℕ → ℕ → ℕ → List ℕ → Room → Calling
-callOf ws which v cursor used rows r =
-    either (eqb which 1) (record { rows = rows; told = proposalTold r v cursor used })
-    (either (eqb which 2)
-    (record {
-      rows = captureBuffer ws rows used r cursor;
-      told = roundTold (captureOf ws (length rows) used r cursor);
-    })
-    (either (eqb which 3)
-    (record {
-      rows = pipelineBuffer ws rows used r cursor;
-      told = roundTold (pipelineOf ws (length rows) used r cursor);
-    })
-    (either (eqb which 4) (record { rows = rows; told = textTold r v cursor used })
-    (record { rows = rows; told = quiet 0 cursor used 0 r }))))
+-- a number that is no place of the table is no call
+unfoldable pub callBy : List ℕ → Calling → ℕ → ℕ → ℕ → ℕ → Option Call
+callBy ws w which a b c = getD (callTable ws (w .rows) (w .text) a b c) which none
 
--- call i of the list, four numbers each, on the room that the one before handed back
-unfoldable pub callAt : List ℕ → List ℕ → ℕ → Calling → Calling
+-- call i of the list: four numbers, with the lists as the calls before it left them
+unfoldable pub callAt : List ℕ → List ℕ → ℕ → Calling → Option Call
 callAt ws calls i w =
-    let at = i * 4 in
-    callOf ws (getD calls at 0) (getD calls (at + 1) 0) (getD calls (at + 2) 0) (getD calls (at + 3) 0)
-    (w .rows) (w .told .room)
+    let k = i * 4 in
+    callBy ws w (getD calls k 0) (getD calls (k + 1) 0) (getD calls (k + 2) 0) (getD calls (k + 3) 0)
 
--- all calls; fewer than four numbers at the end are none
-unfoldable pub play : List ℕ → List ℕ → Calling → Calling
-play ws calls w = upto (length calls / 4) (callAt ws calls) w
+-- ---- what it tells and leaves
+
+-- a round's cursor and the rows used; refused, these are as they were handed over
+abbrev pub roundSaid : RoundAnswer → Said
+roundSaid a = plain (a .refusal) (a .cursor ∷ a .used ∷ [])
+
+unfoldable pub callSaid : Call → Room → Said
+callSaid (Propose v) r = plain (proposeOf r v .refusal) []
+callSaid (CaptureRound ws cursor rows used) r = roundSaid (captureOf ws (length rows) used r cursor)
+callSaid (PipelineRound ws cursor rows used) r = roundSaid (pipelineOf ws (length rows) used r cursor)
+callSaid (Read q) r = said (answerOf q r)
+
+-- the buffer of rows, to which rounds alone write
+unfoldable pub rowsLeft : List ℕ → Call → Room → List ℕ
+rowsLeft rows (Propose v) r = rows
+rowsLeft rows (CaptureRound ws cursor lent used) r = captureBuffer ws lent used r cursor
+rowsLeft rows (PipelineRound ws cursor lent used) r = pipelineBuffer ws lent used r cursor
+rowsLeft rows (Read q) r = rows
+
+-- Each call has 40 places for its numbers and two for its floats. What is no call tells refusal 0, and leaves the rest.
+unfoldable pub called : ℕ → Option Call → Calling → Calling
+called i none w =
+    record { rows = w .rows; told = set (w .told) (i * 40) 0; floats = w .floats; text = w .text; room = w .room }
+called i (some c) w =
+    let s = callSaid c (w .room) in
+    record {
+      rows = rowsLeft (w .rows) c (w .room);
+      told = sets (w .told) (i * 40) (toldIn s);
+      floats = sets (w .floats) (i * 2) (s .floats);
+      text = s .text (w .text);
+      room = handed c (w .room);
+    }
+
+abbrev pub turn : List ℕ → List ℕ → ℕ → Calling → Calling
+turn ws calls i w = called i (callAt ws calls i w) w
+
+-- the first k calls, each on what the one before it left
+unfoldable pub playFirst : ℕ → List ℕ → List ℕ → Calling → Calling
+playFirst k ws calls w = upto k (turn ws calls) w
+
+-- all of them; fewer than four numbers at the end are none
+abbrev pub play : List ℕ → List ℕ → Calling → Calling
+play ws calls w = playFirst (length calls / 4) ws calls w
 
 -- ---- the account
 
--- as the pipeline's console has it, and behind it what that has not
-abbrev pub playedBy : Told → Played
-playedBy t =
-    record {
-      refusal = t .refusal;
-      cursor = t .cursor;
-      used = t .used;
-      count = 0;
-      network = t .room .network;
-      part = t .room .pipeline;
-    }
+-- as the pipeline's console has it, with nothing of a call, and behind it what that has not
+abbrev pub playedBy : Room → Played
+playedBy r = record { refusal = 0; cursor = 0; used = 0; count = 0; network = r .network; part = r .pipeline }
 
-unfoldable pub termNumbers : Told → List ℕ
-termNumbers t =
-    let x = t .room .capture in
-    t .refusal ∷ t .len ∷ x .term ∷ x .initiator ∷ boolByte (x .proposed) ∷ boolByte (x .raised) ∷ []
+unfoldable pub termNumbers : Room → List ℕ
+termNumbers r =
+    let x = r .capture in
+    x .term ∷ x .initiator ∷ boolByte (x .proposed) ∷ boolByte (x .raised) ∷ []
 
-unfoldable pub putTold : Told → List ℕ → List ℕ
-putTold t xs = putHeld 9755 (t .room .capture .held) (sets (putPlayed (playedBy t) xs) 9749 (termNumbers t))
+unfoldable pub putRoom : Room → List ℕ → List ℕ
+putRoom r xs = putHeld 9753 (r .capture .held) (sets (putPlayed (playedBy r) xs) 9749 (termNumbers r))
 
 -- ---- the entry
 
--- what is handed back, and the two lent lists behind it
+-- what is handed back, and the lent lists behind it
 pub record Run : Type 0 where
   pub answer : ℕ
   pub rows : List ℕ
+  pub told : List ℕ
+  pub floats : List Float
+  pub text : List ℕ
   pub out : List ℕ
 
-unfoldable pub ended : Calling → List ℕ → Run
-ended w out = record { answer = w .told .refusal; rows = w .rows; out = putTold (w .told) out }
+abbrev pub ended : ℕ → Calling → List ℕ → Run
+ended k w out =
+    record { answer = k; rows = w .rows; told = w .told; floats = w .floats; text = w .text; out = out }
 
-unfoldable pub runFrom : Opening → List ℕ → List ℕ → List ℕ → List ℕ → Run
-runFrom o ws calls rows out =
-    either (eqb (o .refusal) 0)
-    (ended (play ws calls (record { rows = rows; told = quiet 0 0 0 0 (o .room) })) out)
-    (record { answer = o .refusal; rows = rows; out = out })
+-- the opening's refusal; with one nothing is called, and every list stays as it is
+unfoldable pub runFrom :
+    Opening → List ℕ → List ℕ → List ℕ → List ℕ → List Float → List ℕ → List ℕ → Run
+runFrom o ws calls rows told floats text out =
+    let w : Calling = record { rows = rows; told = told; floats = floats; text = text; room = o .room } in
+    let v = play ws calls w in
+    either (eqb (o .refusal) 0) (ended 0 v (putRoom (v .room) out)) (ended (o .refusal) w out)

@@ -1,3 +1,4 @@
+pub mod Answers
 pub mod Console
 pub mod Calls
 pub mod Rounds

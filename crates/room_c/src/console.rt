@@ -1,19 +1,33 @@
-// The entry for differential runs: a room is opened and called by lent numbers, and its account goes back as numbers.
+// The entry for differential runs: a room is opened and called by lent numbers, and what its calls tell goes back as
+// numbers.
 //   setup: kind (1 pipeline, every other number capture), transactions, start term, interval, bound, seed, listen
 //     timeout, repeats (its low 32 digits), slots of a round, whether these are given
 //   links: a row for each position
-//   calls: four numbers each: which (1 propose, 2 capture round, 3 pipeline round, 4 the packet text of a position,
-//     any other: none), position, cursor, used. What a call has no use for is handed back. Fewer than four numbers at
-//     the end are no call
-//   out: from 0 on a room as in the pipeline's console, the nodes and the counts among it, with the last call's rows
-//     used and cursor; at 9749 the last call's refusal and the length of the text that it read, then term, initiator,
-//     whether anybody proposed, whether the progress was raised; from 9755 on what positions hold, 38 numbers each;
-//     12187 in all
-// A place past the end of a list reads as 0, and nothing is put there. The loss and the abort probability go over as
-// floats, because a NaN has no number here.
+//   calls: four numbers each, which call it is and a, b, c. Fewer than four numbers at the end are no call
+//      1 propose by a
+//      2 capture round, 3 pipeline round from cursor b on, with c rows used
+//      4 kind, 5 num_nodes, 6 settings, 7 slot, 8 next_row, 9 bytes_sent, 10 metrics, 11 link_pdr, 12 flood_coverage,
+//     13 term, 14 round, 15 stopped, 16 initiator, 17 proposal_outcome
+//     18 node a, 19 packet_text of a, 20 log_len of a, 21 log_entry b of a, 22 pending transaction b of a, 23 record a
+//     any other number: no call
+//   told: 40 numbers for each call: its refusal, and behind it what it answers: of a round the cursor and the rows used,
+//     of a reading its fields in order; of a text the length. The rest stays as it is
+//   floats: two for each call: of the settings loss and abort probability, of a ratio its value
+//   text: the buffer that packet_text writes to
+//   out: a room as in the pipeline's console, but for the cursor and the rows used, which are 0; from 9749 on term,
+//     initiator, whether anybody proposed, whether the progress was raised; from 9753 on what positions hold, 38 numbers
+//     each; 12185 in all
+// A place past the end of a list reads as 0, and nothing is put there. Loss and abort probability go over as floats,
+// because a NaN has no number here.
 ghost use mathlib.Core.Path.{_≡_};
-ghost use Prim.Native.Nat.{_<_, _^_};
-ghost use Rattle.room_c.specs.Console.{kindNumbered, settingsBy, askedBy, openingBy, quiet, proposalTold, roundTold, textTold, callOf, callAt, play, playedBy, termNumbers, putTold, runFrom, Calling, Run};
+ghost use Prim.Native.Nat.{_+_, _-_, _*_, _<_, _≤_, _^_};
+ghost use lib.ListN.{getD};
+ghost use lib.Seq.{sets};
+ghost use Rattle.readings.specs.Calls.{«proposal_outcome», «record», answerOf};
+ghost use Rattle.demand.specs.Calls.{Propose, Read, handed};
+ghost use Rattle.room_c.specs.Answers.{said, toldIn};
+ghost use Rattle.room_c.specs.Console.{kindNumbered, settingsBy, askedBy, openingBy, wholeReadings, partReadings, callBy, called, roundSaid, callSaid, turn, play, playedBy, termNumbers, putRoom, runFrom, Calling, Run};
+use super::answers;
 use engines::settings::Settings;
 use engines_c::numbers;
 use engines_c::payloads;
@@ -27,14 +41,10 @@ use room::room::Room;
 use room::room::RoomKind;
 use room::room::RoundAnswer;
 
-// What a call hands back: the refusal, the cursor, the rows used, the length of the text that it read, and the room.
-pub struct Told {
-    pub refusal: u64,
-    pub cursor: usize,
-    pub used: usize,
-    pub len: usize,
-    pub room: Room,
-}
+// The places of a call in the two lists.
+const NUMBERS: usize = 40;
+
+const FLOATS: usize = 2;
 
 // ---- the opening
 
@@ -98,140 +108,178 @@ fn open_by(xs: &[u64], loss_rate: f64, abort_probability: f64, links: &[u64]) ->
 
 // ---- the calls
 
-fn quietly(r: Room, cursor: usize, used: usize) -> Told
-    ensures { λ t. ⌜ t ≡ quiet 0 cursor used 0 r ⌝ }
-{
-    Told {
-        refusal: 0,
-        cursor,
-        used,
-        len: 0,
-        room: r,
-    }
-}
-
-fn tell_proposal(r: Room, v: usize, cursor: usize, used: usize) -> Told
-    ensures { λ t. ⌜ t ≡ proposalTold r v cursor used ⌝ }
+fn propose(told: &mut [u64], at: usize, r: Room, v: usize) -> Room
+    ensures { λ q. ⌜ q ≡ handed (Propose v) r ⌝ }
+    ensures { λ _. ⌜ now (told .exit) ≡ sets (now (told .entry)) at (toldIn (callSaid (Propose v) r)) ⌝ }
 {
     let p = r.propose(v);
+    numbers::put(told, at, p.refusal);
     let room = p.room;
-    Told {
-        refusal: p.refusal,
-        cursor,
-        used,
-        len: 0,
-        room,
-    }
+    room
 }
 
-fn tell_round(a: RoundAnswer) -> Told
-    ensures { λ t. ⌜ t ≡ roundTold a ⌝ }
+fn tell_round(told: &mut [u64], at: usize, a: RoundAnswer) -> Room
+    ensures { λ q. ⌜ q ≡ a .room ⌝ }
+    ensures { λ _. ⌜ now (told .exit) ≡ sets (now (told .entry)) at (toldIn (roundSaid a)) ⌝ }
 {
+    let values = [a.refusal, a.cursor as u64, a.used as u64];
+    numbers::put_run(told, at, 0, &values);
     let room = a.room;
-    Told {
-        refusal: a.refusal,
-        cursor: a.cursor,
-        used: a.used,
-        len: 0,
-        room,
-    }
+    room
 }
 
-fn tell_text(r: Room, v: usize, cursor: usize, used: usize) -> Told
-    ensures { λ t. ⌜ t ≡ textTold r v cursor used ⌝ }
+// A reading of the whole room.
+fn read_whole(told: &mut [u64], at: usize, floats: &mut [f64], f: usize, which: u64, r: Room)
+    requires { ⌜ 4 ≤ which ⌝ }
+    ensures { λ _. ⌜ now (told .exit) ≡ sets (now (told .entry)) at (toldIn (said (answerOf (getD wholeReadings (which - 4) «proposal_outcome») r))) ⌝ }
+    ensures { λ _. ⌜ now (floats .exit) ≡ sets (now (floats .entry)) f (said (answerOf (getD wholeReadings (which - 4) «proposal_outcome») r) .floats) ⌝ }
 {
-    let mut text = [0u8; 1024];
-    let a = reading::packet_text(r, v, &mut text);
-    Told {
-        refusal: a.refusal,
-        cursor,
-        used,
-        len: a.len,
-        room: r,
+    match which {
+        4 => answers::tell(told, at, 0, answers::kind_number(reading::kind(r))),
+        5 => answers::tell(told, at, 0, reading::num_nodes(r) as u64),
+        6 => answers::tell_settings(told, at, floats, f, reading::settings(r)),
+        7 => answers::tell(told, at, 0, reading::slot(r)),
+        8 => answers::tell(told, at, 0, reading::next_row(r)),
+        9 => answers::tell(told, at, 0, reading::bytes_sent(r)),
+        10 => answers::tell_metrics(told, at, reading::metrics(r)),
+        11 => answers::tell_ratio(told, at, floats, f, reading::link_pdr(r)),
+        12 => answers::tell_ratio(told, at, floats, f, reading::flood_coverage(r)),
+        13 => answers::tell_number(told, at, reading::term(r)),
+        14 => answers::tell_number(told, at, reading::round(r)),
+        15 => answers::tell_number(told, at, reading::stopped(r)),
+        16 => answers::tell_number(told, at, reading::initiator(r)),
+        _ => answers::tell_outcome(told, at, reading::proposal_outcome(r)),
     }
 }
 
+// A reading of a position or a place.
+fn read_part(told: &mut [u64], at: usize, text: &mut [u8], which: u64, a: usize, b: usize, r: Room)
+    requires { ⌜ 18 ≤ which ⌝ }
+    ensures { λ _. ⌜ now (told .exit) ≡ sets (now (told .entry)) at (toldIn (said (answerOf (getD (partReadings (now (text .entry)) a b) (which - 18) («record» a)) r))) ⌝ }
+    ensures { λ _. ⌜ now (text .exit) ≡ said (answerOf (getD (partReadings (now (text .entry)) a b) (which - 18) («record» a)) r) .text (now (text .entry)) ⌝ }
+{
+    match which {
+        18 => answers::tell_node(told, at, reading::node(r, a)),
+        19 => answers::tell_text(told, at, reading::packet_text(r, a, text)),
+        20 => answers::tell_number(told, at, reading::log_len(r, a)),
+        21 => answers::tell_entry(told, at, reading::log_entry(r, a, b)),
+        22 => answers::tell_pending(told, at, reading::pending(r, a, b)),
+        _ => answers::tell_record(told, at, reading::record(r, a)),
+    }
+}
+
+// One call; what is none tells refusal 0.
 fn call(
     words: &[u64],
     rows: &mut [u64],
+    told: &mut [u64],
+    floats: &mut [f64],
+    text: &mut [u8],
+    i: usize,
     which: u64,
-    v: usize,
-    cursor: usize,
-    used: usize,
+    a: usize,
+    b: usize,
+    c: usize,
     r: Room,
-) -> Told
-    ensures { λ t. ⌜ record { rows = now (rows .exit); told = t } ≡ callOf (now (words .entry)) which v cursor used (now (rows .entry)) r ⌝ }
+) -> Room
+    requires { ⌜ i < 2 ^ 58 ⌝ }
+    ensures { λ q. ⌜ record { rows = now (rows .exit); told = now (told .exit); floats = now (floats .exit); text = now (text .exit); room = q }
+        ≡ called i (callBy (now (words .entry)) (record { rows = now (rows .entry); told = now (told .entry); floats = now (floats .entry); text = now (text .entry); room = r }) which a b c) (record { rows = now (rows .entry); told = now (told .entry); floats = now (floats .entry); text = now (text .entry); room = r }) ⌝ }
 {
-    if which == 1 {
-        return tell_proposal(r, v, cursor, used);
+    let at = i * NUMBERS;
+    let f = i * FLOATS;
+    match which {
+        1 => propose(told, at, r, a),
+        2 => {
+            let x = r.capture_round(words, b, rows, c);
+            tell_round(told, at, x)
+        }
+        3 => {
+            let y = r.pipeline_round(words, b, rows, c);
+            tell_round(told, at, y)
+        }
+        4..=17 => {
+            read_whole(told, at, floats, f, which, r);
+            r
+        }
+        18..=23 => {
+            read_part(told, at, text, which, a, b, r);
+            r
+        }
+        _ => {
+            numbers::put(told, at, 0);
+            r
+        }
     }
-    if which == 2 {
-        let a = r.capture_round(words, cursor, rows, used);
-        return tell_round(a);
-    }
-    if which == 3 {
-        let b = r.pipeline_round(words, cursor, rows, used);
-        return tell_round(b);
-    }
-    if which == 4 {
-        return tell_text(r, v, cursor, used);
-    }
-    quietly(r, cursor, used)
 }
 
 // Call i of the list.
-fn call_at(words: &[u64], rows: &mut [u64], calls: &[u64], i: usize, t: Told) -> Told
-    requires { ⌜ i < 2 ^ 62 ⌝ }
-    ensures { λ u. ⌜ record { rows = now (rows .exit); told = u } ≡ callAt (now (words .entry)) (now (calls .entry)) i (record { rows = now (rows .entry); told = t }) ⌝ }
+fn call_at(
+    words: &[u64],
+    rows: &mut [u64],
+    calls: &[u64],
+    told: &mut [u64],
+    floats: &mut [f64],
+    text: &mut [u8],
+    i: usize,
+    r: Room,
+) -> Room
+    requires { ⌜ i < 2 ^ 58 ⌝ }
+    ensures { λ q. ⌜ record { rows = now (rows .exit); told = now (told .exit); floats = now (floats .exit); text = now (text .exit); room = q }
+        ≡ turn (now (words .entry)) (now (calls .entry)) i (record { rows = now (rows .entry); told = now (told .entry); floats = now (floats .entry); text = now (text .entry); room = r }) ⌝ }
 {
-    let at = i * 4;
-    let which = numbers::number(calls, at);
-    let v = numbers::number(calls, at + 1) as usize;
-    let cursor = numbers::number(calls, at + 2) as usize;
-    let used = numbers::number(calls, at + 3) as usize;
-    let r = t.room;
-    call(words, rows, which, v, cursor, used, r)
+    let k = i * 4;
+    let which = numbers::number(calls, k);
+    let a = numbers::number(calls, k + 1) as usize;
+    let b = numbers::number(calls, k + 2) as usize;
+    let c = numbers::number(calls, k + 3) as usize;
+    call(words, rows, told, floats, text, i, which, a, b, c, r)
 }
 
-fn play_calls(words: &[u64], rows: &mut [u64], calls: &[u64], start: Told) -> Told
-    ensures { λ u. ⌜ record { rows = now (rows .exit); told = u } ≡ play (now (words .entry)) (now (calls .entry)) (record { rows = now (rows .entry); told = start }) ⌝ }
+fn play_calls(
+    words: &[u64],
+    rows: &mut [u64],
+    calls: &[u64],
+    told: &mut [u64],
+    floats: &mut [f64],
+    text: &mut [u8],
+    start: Room,
+) -> Room
+    ensures { λ q. ⌜ record { rows = now (rows .exit); told = now (told .exit); floats = now (floats .exit); text = now (text .exit); room = q }
+        ≡ play (now (words .entry)) (now (calls .entry)) (record { rows = now (rows .entry); told = now (told .entry); floats = now (floats .entry); text = now (text .entry); room = start }) ⌝ }
 {
     let count = calls.len() / 4;
-    let mut t = start;
+    let mut r = start;
     let mut i: usize = 0;
     while i < count {
-        t = call_at(words, rows, calls, i, t);
+        r = call_at(words, rows, calls, told, floats, text, i, r);
         i += 1;
     }
-    t
+    r
 }
 
 // ---- the account
 
-fn played_by(t: Told) -> Played
-    ensures { λ p. ⌜ p ≡ playedBy t ⌝ }
+fn played_by(r: Room) -> Played
+    ensures { λ p. ⌜ p ≡ playedBy r ⌝ }
 {
-    let r = t.room;
     let network = r.network;
     let part = r.pipeline;
     Played {
-        refusal: t.refusal,
-        cursor: t.cursor,
-        used: t.used,
+        refusal: 0,
+        cursor: 0,
+        used: 0,
         count: 0,
         network,
         part,
     }
 }
 
-fn term_numbers(t: Told) -> [u64; 6]
-    ensures { λ r. ⌜ r ≡ termNumbers t ⌝ }
+fn term_numbers(r: Room) -> [u64; 4]
+    ensures { λ xs. ⌜ xs ≡ termNumbers r ⌝ }
 {
-    let r = t.room;
     let x = r.capture;
     [
-        t.refusal,
-        t.len as u64,
         x.term,
         x.initiator as u64,
         x.proposed as u64,
@@ -239,23 +287,22 @@ fn term_numbers(t: Told) -> [u64; 6]
     ]
 }
 
-fn put_told(xs: &mut [u64], t: Told)
-    ensures { λ _. ⌜ now (xs .exit) ≡ putTold t (now (xs .entry)) ⌝ }
+fn put_room(xs: &mut [u64], r: Room)
+    ensures { λ _. ⌜ now (xs .exit) ≡ putRoom r (now (xs .entry)) ⌝ }
 {
-    let p = played_by(t);
-    let values = term_numbers(t);
-    let r = t.room;
+    let p = played_by(r);
+    let values = term_numbers(r);
     let x = r.capture;
     let held = x.held;
     pipes::put_played(xs, p);
     numbers::put_run(xs, 9749, 0, &values);
-    payloads::put_held(xs, 9755, held);
+    payloads::put_held(xs, 9753, held);
 }
 
 // ---- the entry
 
-// The opening, then the calls in their order. The answer is the opening's refusal, which leaves both lists as they
-// were, or else the last call's, 0 for none and for no calls.
+// The opening, then the calls in their order. The answer is the opening's refusal, 0 for none; a refused opening leaves
+// every list as it was.
 #[no_mangle]
 pub extern "C" fn room_run(
     setup: &[u64],
@@ -265,17 +312,20 @@ pub extern "C" fn room_run(
     words: &[u64],
     rows: &mut [u64],
     calls: &[u64],
+    told: &mut [u64],
+    floats: &mut [f64],
+    text: &mut [u8],
     out: &mut [u64],
 ) -> u64
-    ensures { λ r. ⌜ record { answer = r; rows = now (rows .exit); out = now (out .exit) } ≡ runFrom (openingBy (now (setup .entry)) «loss_rate» «abort_probability» (now (links .entry))) (now (words .entry)) (now (calls .entry)) (now (rows .entry)) (now (out .entry)) ⌝ }
+    ensures { λ r. ⌜ record { answer = r; rows = now (rows .exit); told = now (told .exit); floats = now (floats .exit); text = now (text .exit); out = now (out .exit) }
+        ≡ runFrom (openingBy (now (setup .entry)) «loss_rate» «abort_probability» (now (links .entry))) (now (words .entry)) (now (calls .entry)) (now (rows .entry)) (now (told .entry)) (now (floats .entry)) (now (text .entry)) (now (out .entry)) ⌝ }
 {
     let o = open_by(setup, loss_rate, abort_probability, links);
     if o.refusal != 0 {
         return o.refusal;
     }
-    let room = o.room;
-    let start = quietly(room, 0, 0);
-    let t = play_calls(words, rows, calls, start);
-    put_told(out, t);
-    t.refusal
+    let start = o.room;
+    let room = play_calls(words, rows, calls, told, floats, text, start);
+    put_room(out, room);
+    0
 }

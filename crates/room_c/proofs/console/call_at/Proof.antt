@@ -6,14 +6,7 @@ use Rattle.room_c.proofs.console.call_at.Tie as tie
 returns : tie.Need-returns
 unfolding callAt
 returns c =
-    let read = c .before .before .before .before .before in
-    rw (
-      ← read .before .before .before .number .ensures,
-      ← read .before .before .number2 .ensures,
-      ← read .before .number3 .ensures,
-      ← read .number4 .ensures,
-    )
-    (c .before .before .call .ensures)
+    rw (← c .before .before .before .before .before .before .before .before .before .before .before .before .before .before .before .before .number .ensures, ← c .before .before .before .before .before .before .before .before .before .before .before .before .before .before .before .number2 .ensures, ← c .before .before .before .before .before .before .before .before .before .before .before .before .before .before .number3 .ensures, ← c .before .before .before .before .before .before .before .before .before .before .before .before .before .number4 .ensures) (c .before .before .before .before .before .before .before .before .call .ensures)
 
 pub call-at-spec : {M : Type 1} → statement M
 call-at-spec =
@@ -28,5 +21,8 @@ call-at-spec =
     (λ c. search needs)
     (λ c κs. search needs)
     (λ c κs. search needs)
+    (λ c. search needs)
+    (λ c. search needs)
+    (λ c. search needs)
     (λ c. search needs)
     returns)

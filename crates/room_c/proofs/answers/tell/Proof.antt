@@ -1,0 +1,14 @@
+use mathlib.Core.Path.{_∙_}
+use native.Mathlib.Nat.{add-zero}
+use borrow.Author.Needs.{needs}
+use Rattle.room_c.proofs.answers.tell.Statement.{statement}
+use Rattle.room_c.proofs.answers.tell.Tie as tie
+
+pub tell-spec : {M : Type 1} → statement M
+tell-spec =
+    tie.close
+    (tie.spec
+    (λ c. search needs)
+    (λ c κs. search needs)
+    (λ c. search needs)
+    (λ c. c .before .before .put-run .ensures ∙ rw add-zero))

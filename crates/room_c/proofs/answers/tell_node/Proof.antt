@@ -1,0 +1,20 @@
+use mathlib.Core.Path.{_∙_}
+use native.Mathlib.Numerals.{add-one}
+use Rattle.room_c.specs.Answers.{said}
+use borrow.Author.Needs.{needs}
+use Rattle.room_c.proofs.answers.tell_node.Statement.{statement}
+use Rattle.room_c.proofs.answers.tell_node.Tie as tie
+
+returns : tie.Need-returns
+unfolding said
+returns c =
+    c .before .before .put-node .ensures ∙ rw (add-one, c .before .before .before .before .before .before .put .ensures)
+
+pub tell-node-spec : {M : Type 1} → statement M
+tell-node-spec =
+    tie.close
+    (tie.spec
+    (λ c κs. search needs)
+    (λ c κs. search needs)
+    (λ c. search needs)
+    returns)

@@ -1,0 +1,24 @@
+use mathlib.Core.Path.{_∙_}
+use native.Mathlib.Nat.{add-zero}
+use Rattle.room_c.specs.Answers.{said}
+use borrow.Author.Needs.{needs}
+use Rattle.room_c.proofs.answers.tell_settings.Statement.{statement}
+use Rattle.room_c.proofs.answers.tell_settings.Tie as tie
+
+returns : tie.Need-returns
+unfolding said
+returns c =
+    (c .before .before .before .before .before .before .put-run .ensures ∙ rw add-zero, c .before .before .put-floats .ensures)
+
+pub tell-settings-spec : {M : Type 1} → statement M
+tell-settings-spec =
+    tie.close
+    (tie.spec
+    (λ c. search needs)
+    (λ c. search needs)
+    (λ c. search needs)
+    (λ c κs. search needs)
+    (λ c κs. search needs)
+    (λ c. search needs)
+    (λ c. search needs)
+    returns)
