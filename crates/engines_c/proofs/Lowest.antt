@@ -8,7 +8,7 @@ use native.Mathlib.Nat.{eq-zero-or-pos, lt-irrefl}
 use native.Mathlib.Omega.{arith}
 use lib.Dec.{eqb, leb, ltb}
 use lib.ListN.{length, getD}
-use borrow.Author.Tests.{eq-eqb, le-leb, eqb-true, eqb-false}
+use borrow.Author.Tests.{eq-eqb, ne-eqb, le-leb, lt-leb, eqb-true, eqb-false}
 use Rattle.limits.specs.Limits.{lastSlot}
 use Rattle.limits.specs.Refusals.{badPositions, badLinks, badLoss, noInterval, noPosition, badPacket}
 use Rattle.limits.specs.Refusals.{tooLong, wordsShort, rowsShort}
@@ -172,6 +172,13 @@ module _ (xs ws : List ℕ) (numbers : ℕ) (conf : RoundConf) (initiator : ℕ)
   behind : (k : ℕ) → badLinks ≤ k → UpTo k (first (lowestOf 0 a b c d) t) → UpTo k (first (lowestOf g a b c d) t)
   behind k h u = else-rest g a b c d t k (graph-low (conf .graph)) h u
 
+  none-told : g ≡ 0 → lossAccepted (conf .settings .«loss_rate») ≡ true → (conf .interval ≡ 0 → ⊥)
+      → initiator < conf .graph .n → heldFits xs 528 (conf .graph .n) ≡ true
+      → first (askedOf conf initiator xs) t ≡ t
+  unfolding askedOf lowestOf first
+  none-told h1 h2 h3 h4 h5 =
+      rw (h1, h2, ne-eqb (conf .interval) 0 h3, lt-leb (conf .graph .n) initiator h4, h5)
+
   lowest-of-all : LowestFirst xs ws numbers conf initiator (first (askedOf conf initiator xs) t)
   unfolding askedOf
   lowest-of-all =
@@ -194,6 +201,7 @@ module _ (xs ws : List ℕ) (numbers : ℕ) (conf : RoundConf) (initiator : ℕ)
             λ h.
             let k = told-high xs ws numbers conf initiator h in
             behind t (omega arith) (round-told a b c d t h k);
+        otherwise = none-told;
       }
 
 pub lowest-first : {xs ws lent : List ℕ} {conf : RoundConf} {initiator r : ℕ} {after left : List ℕ}

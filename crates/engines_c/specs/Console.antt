@@ -105,8 +105,8 @@ RefusedKeeps =
 abbrev pub UpTo : ℕ → ℕ → Type 0
 UpTo k r = (0 < r) × (r ≤ k)
 
--- The lowest number first, said of each refusal by itself, whatever else holds. `lowest-first` of proofs/Lowest.antt says
--- so of every r that a call answers.
+-- The lowest number first, said of each refusal by itself, whatever else holds; and where none holds the answer is the
+-- round's own. `lowest-first` of proofs/Lowest.antt says so of every r that a call answers.
 pub record LowestFirst (xs ws : List ℕ) (numbers : ℕ) (conf : RoundConf) (initiator r : ℕ) : Type 0 where
   pub positions : isSize (conf .graph .n) ≡ false → UpTo badPositions r
   pub links : allOf (conf .graph .n) (λ i. inside (conf .graph .n) (getD (conf .graph .adj) i 0)) ≡ false
@@ -116,3 +116,7 @@ pub record LowestFirst (xs ws : List ℕ) (numbers : ℕ) (conf : RoundConf) (in
   pub position : conf .graph .n ≤ initiator → UpTo noPosition r
   pub held : heldFits xs 528 (conf .graph .n) ≡ false → UpTo badPacket r
   pub round : 0 < toldOf xs ws numbers conf initiator .refusal → UpTo (toldOf xs ws numbers conf initiator .refusal) r
+  -- and it is refused for nothing else
+  pub otherwise : graphRefusal (conf .graph) ≡ 0 → lossAccepted (conf .settings .«loss_rate») ≡ true
+      → (conf .interval ≡ 0 → ⊥) → initiator < conf .graph .n → heldFits xs 528 (conf .graph .n) ≡ true
+      → r ≡ toldOf xs ws numbers conf initiator .refusal

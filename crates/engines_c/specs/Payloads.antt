@@ -47,8 +47,9 @@ packetAt xs at k =
 unfoldable pub payloadAt : List ℕ → ℕ → ℕ → Payload
 payloadAt xs at k = record { held = heldNumbered (cell xs at k); packet = packetAt xs at k }
 
--- Refusal 9 is for numbers that stand for no payload. Whatever is held, each of the 38 must be one that its place has: one
--- of three for what it is and for the phase, lengths within the limits, and bytes.
+-- Refusal 9 is for numbers that stand for no payload. Whatever is held, what it is and the phase must be one of three,
+-- the lengths within the limits, and the data bytes. Marks behind the bitmap's length say nothing to a merge, and are let
+-- be.
 unfoldable pub bytesFit : List ℕ → ℕ → ℕ → Bool
 bytesFit xs at k = allOf dataBytes (λ i. leb (cell xs at (k + i)) 255)
 
@@ -57,7 +58,7 @@ payloadFits xs at k =
     leb (cell xs at k) 2
     && (leb (cell xs at (k + 2)) 2 && (limits (cell xs at (k + 4)) (cell xs at (k + 3)) && bytesFit xs at (k + 6)))
 
--- those of each of the first n positions are
+-- those of each of the first n positions are payloads; the places behind them are nobody's and may hold any numbers
 unfoldable pub heldFits : List ℕ → ℕ → ℕ → Bool
 heldFits xs at n = allOf (atMost64 n) (λ i. payloadFits xs at (i * 38))
 

@@ -33,14 +33,27 @@ pub nothing-asked : (s : NodeTwoPcState) (l : Carried) → answerNack 0 s l ≡ 
 unfolding answerNack isAnswer
 nothing-asked s l = refl
 
+-- what is known of transaction u is as it was: the log, what is pending, the votes, and whether an abort is known of it
+pub record Untouched (u : ℕ) (s x : NodeTwoPcState) : Type 0 where
+  pub log : x .log ≡ s .log
+  pub pending : x .pending ≡ s .pending
+  pub votes : x .votes ≡ s .votes
+  pub aborts : has (x .aborts) u ≡ has (s .aborts) u
+
 -- An abort of transaction t leaves what is known of every other one.
 pub abort-of-one : (t u : ℕ) (abort : Bool) (s : NodeTwoPcState) → u < 64 → (u ≡ t → ⊥)
-    → has (mergeAbort t abort s .aborts) u ≡ has (s .aborts) u
+    → Untouched u s (mergeAbort t abort s)
 unfolding mergeAbort withMark
 abort-of-one t u abort s l ne =
-    either-cases (λ (x : NodeTwoPcState). has (x .aborts) u ≡ has (s .aborts) u) (abort && has (s .pending) t)
-    (λ e. has-marks 64 _ u ∙ rw (lt-ltb u 64 l, ne-eqb u t ne) (or-false (has (s .aborts) u)))
-    (λ e. refl)
+    either-cases (Untouched u s) (abort && has (s .pending) t)
+    (λ e.
+    record {
+      log = refl;
+      pending = refl;
+      votes = refl;
+      aborts = has-marks 64 _ u ∙ rw (lt-ltb u 64 l, ne-eqb u t ne) (or-false (has (s .aborts) u));
+    })
+    (λ e. record { log = refl; pending = refl; votes = refl; aborts = refl })
 
 -- an answer to a nack records nothing
 answer-records : (nack : ℕ) (s : NodeTwoPcState) (l : Carried) → answerNack nack s l .records ≡ l .records
