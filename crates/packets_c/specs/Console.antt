@@ -136,9 +136,9 @@ abbrev pub pairFits : ℕ → ℕ → Bool
 pairFits there n = leb there 1 && (eqb there 1 || eqb n 0)
 
 abbrev pub piggybackFits : ℕ → ℕ → ℕ → ℕ → Bool
-piggybackFits txs n states phase = pairFits txs n && (pairFits states phase && leb phase 2)
+piggybackFits hasTx n hasState phase = pairFits hasTx n && (pairFits hasState phase && leb phase 2)
 
--- the same, and a flag is 0 or 1
+-- the phase and the sizes as above, a flag of 0 or 1, and what is piggybacked
 unfoldable pub pipelineFits : List ℕ → Bool
 pipelineFits m =
     leb (getD m 1 0) 2

@@ -201,14 +201,14 @@ fn filled(bytes: &[u8], len: usize) -> [u8; 32]
     d
 }
 
-// The limits, and no mark at or above the number of entries.
+// The limits, and no mark at or above the number of entries: a full bitmap has an entry for every mark.
 fn sizes_fit(entries: usize, bytes_len: usize, marks: u64) -> bool
     ensures { λ r. ⌜ r ≡ sizesFit entries «bytes_len» marks ⌝ }
 {
     if !len::within(entries, bytes_len) {
         return false;
     }
-    if entries >= 64 {
+    if entries >= limits::BITMAP {
         return true;
     }
     marks < (1 << entries)
