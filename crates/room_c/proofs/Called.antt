@@ -18,12 +18,36 @@ use Rattle.room.specs.declared.room.Room.{Room}
 use Rattle.engines.specs.Metrics.{linkPdr, floodCoverage}
 use Rattle.engines.specs.declared.metrics.Ratio.{Ratio}
 use Rattle.engines.specs.declared.metrics.Ratio.the-variants.{None, Some}
-use Rattle.readings.specs.Calls.{Reading, kind, «num_nodes», settings, slot, «next_row», «bytes_sent», metrics, «link_pdr», «flood_coverage», term, round, stopped, initiator, «proposal_outcome», node, «packet_text», «log_len», «log_entry», pending, «record», aRatio, answerOf}
+use Rattle.readings.specs.Calls.{
+  Reading,
+  kind,
+  «num_nodes»,
+  settings,
+  slot,
+  «next_row»,
+  «bytes_sent»,
+  metrics,
+  «link_pdr»,
+  «flood_coverage»,
+  term,
+  round,
+  stopped,
+  initiator,
+  «proposal_outcome»,
+  node,
+  «packet_text»,
+  «log_len»,
+  «log_entry»,
+  pending,
+  «record»,
+  aRatio,
+  answerOf,
+}
 use Rattle.readings.specs.Readings.{ofPipeline, pendingIn, pendingOf}
 use Rattle.readings.specs.declared.readings.PendingReading.{PendingReading}
 use Rattle.demand.specs.Calls.{Call, Propose, CaptureRound, PipelineRound, Read, handed, after}
 use Rattle.room_c.specs.Answers.{Said, plain, said, toldIn}
-use Rattle.room_c.specs.Console.{Calling, callAt, callSaid, called, turn, playFirst, play}
+use Rattle.room_c.specs.Console.{numbersEach, floatsEach, Calling, callAt, callSaid, called, turn, playFirst, play}
 use Rattle.room_c.specs.Calls.{callIn, listed, callsIn, roomIn, saidIn, PlayedByCalls}
 use Rattle.room_c.proofs.Putting.{put-stays}
 
@@ -110,13 +134,13 @@ few-call (some (Read q)) r = few-read q r
 -- ---- what is told
 
 put-numbers : (i : ℕ) (c : Option Call) (w : Calling)
-    → called i c w .told ≡ sets (w .told) (i * 40) (toldIn (saidIn c (w .room)))
+    → called i c w .told ≡ sets (w .told) (i * numbersEach) (toldIn (saidIn c (w .room)))
 unfolding called saidIn
 put-numbers i none w = refl
 put-numbers i (some c) w = refl
 
 put-floats : (i : ℕ) (c : Option Call) (w : Calling)
-    → called i c w .floats ≡ sets (w .floats) (i * 2) (saidIn c (w .room) .floats)
+    → called i c w .floats ≡ sets (w .floats) (i * floatsEach) (saidIn c (w .room) .floats)
 unfolding called saidIn
 put-floats i none w = refl
 put-floats i (some c) w = refl
@@ -135,22 +159,22 @@ module _ (ws calls : List ℕ) (w : Calling) where
   abbrev count : ℕ
   count = length calls / 4
 
-  numbers-stay : (i k : ℕ) → i < count → i * 40 + k < length (w .told) → k < length (toldIn (saidOf i))
-      → getD (play ws calls w .told) (i * 40 + k) 0 ≡ getD (toldIn (saidOf i)) k 0
+  numbers-stay : (i k : ℕ) → i < count → i * numbersEach + k < length (w .told) → k < length (toldIn (saidOf i))
+      → getD (play ws calls w .told) (i * numbersEach + k) 0 ≡ getD (toldIn (saidOf i)) k 0
   unfolding playFirst
   numbers-stay i k h g l =
       let e = same-said i in
-      put-stays (turn ws calls) (λ v. v .told) (λ j v. toldIn (saidAt j v)) (λ j. j * 40)
+      put-stays (turn ws calls) (λ v. v .told) (λ j v. toldIn (saidAt j v)) (λ j. j * numbersEach)
       (λ j v. put-numbers j (callAt ws calls j v) v)
       (λ a b v h. omega (arith, few-call (callAt ws calls a v) (v .room) .numbers))
       count i k 0 w h g (rw e l) ∙ ap (λ (x : Said). getD (toldIn x) k 0) e
 
-  floats-stay : (i k : ℕ) (d : Float) → i < count → i * 2 + k < length (w .floats) → k < length (saidOf i .floats)
-      → getD (play ws calls w .floats) (i * 2 + k) d ≡ getD (saidOf i .floats) k d
+  floats-stay : (i k : ℕ) (d : Float) → i < count → i * floatsEach + k < length (w .floats) → k < length (saidOf i .floats)
+      → getD (play ws calls w .floats) (i * floatsEach + k) d ≡ getD (saidOf i .floats) k d
   unfolding playFirst
   floats-stay i k d h g l =
       let e = same-said i in
-      put-stays (turn ws calls) (λ v. v .floats) (λ j v. saidAt j v .floats) (λ j. j * 2)
+      put-stays (turn ws calls) (λ v. v .floats) (λ j v. saidAt j v .floats) (λ j. j * floatsEach)
       (λ j v. put-floats j (callAt ws calls j v) v)
       (λ a b v h. omega (arith, few-call (callAt ws calls a v) (v .room) .floats))
       count i k d w h g (rw e l) ∙ ap (λ (x : Said). getD (x .floats) k d) e

@@ -12,11 +12,16 @@ use Rattle.readings.specs.Calls.{Reading, «proposal_outcome», «record», ans
 use Rattle.room.specs.declared.room.Room.{Room}
 use Rattle.demand.specs.Calls.{Call, Read, handed}
 use Rattle.room_c.specs.Answers.{said, toldIn}
-use Rattle.room_c.specs.Console.{wholeReadings, partReadings, callTable, callSaid, rowsLeft, called, callBy, Calling}
+use Rattle.room_c.specs.Console.{wholeReadings, partReadings, callTable}
 
--- a number from k on that is not k
-pub past : {x k : ℕ} → k ≤ x → (x ≡ k → ⊥) → suc k ≤ x
-past h n = omega arith
+-- a number from k on that is none of the next count
+abbrev NoneOf : ℕ → ℕ → ℕ → Type 0
+NoneOf x k zero = Unit
+NoneOf x k (suc count) = NoneOf x k count × (x ≡ k + count → ⊥)
+
+pub past : (x k count : ℕ) → k ≤ x → NoneOf x k count → k + count ≤ x
+past x k zero h n = omega arith
+past x k (suc count) h n = let e = past x k count h (n .0) in let d = n .1 in omega arith
 
 -- ---- lists
 

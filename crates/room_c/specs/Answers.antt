@@ -1,5 +1,5 @@
--- Document 01, "Where each language form belongs": what a reading answers as numbers and floats, for an entry that can be
--- lent nothing else; each enum has its number here. Assumes nothing: these are definitions.
+-- Document 01, "Where each language form belongs": what a reading answers as numbers and floats, for an entry that can
+-- be lent nothing else; each enum has its number here. Assumes nothing: these are definitions.
 use Prim.Native.Nat.{ℕ}
 use mathlib.Core.List.{List, [], _∷_}
 use lib.Ieee.{Float}

@@ -1,6 +1,6 @@
--- The entry's list of numbers is a list of the room's own calls, readings among them: the room is left as that list leaves
--- it, so that whatever holds of every such list holds of what the entry leaves, and what the entry tells of each call is
--- that call's answer in the room that it was made in, whatever calls came behind it. Assumes nothing: these are
+-- The entry's list of numbers is a list of the room's own calls, readings among them. The room is left as that list
+-- leaves it, so that whatever holds of every such list holds of what the entry leaves. What the entry tells of each
+-- call is that call's answer in the room that it was made in, whatever calls came behind it. Assumes nothing: these are
 -- statements. They are proved in proofs/Called.antt.
 use mathlib.Core.List.{List, [], _∷_, _++_}
 use mathlib.Core.Option.{Option, none, some}
@@ -11,7 +11,7 @@ use lib.ListN.{length, getD}
 use Rattle.room.specs.declared.room.Room.{Room}
 use Rattle.demand.specs.Calls.{Call, after}
 use Rattle.room_c.specs.Answers.{Said, plain, toldIn}
-use Rattle.room_c.specs.Console.{Calling, callAt, callSaid, playFirst, play}
+use Rattle.room_c.specs.Console.{numbersEach, floatsEach, Calling, callAt, callSaid, playFirst, play}
 
 -- call i, with the lent lists as the calls before it left them
 abbrev pub callIn : List ℕ → List ℕ → Calling → ℕ → Option Call
@@ -39,14 +39,14 @@ saidIn (some c) r = callSaid c r
 pub record PlayedByCalls (ws calls : List ℕ) (w : Calling) : Type 0 where
   pub room : play ws calls w .room ≡ after (callsIn ws calls w (length calls / 4)) (w .room)
   -- each refusal that the list has a place for
-  pub refusals : (i : ℕ) → i < length calls / 4 → i * 40 < length (w .told)
-      → getD (play ws calls w .told) (i * 40) 0 ≡ saidIn (callIn ws calls w i) (roomIn ws calls w i) .refusal
+  pub refusals : (i : ℕ) → i < length calls / 4 → i * numbersEach < length (w .told)
+      → getD (play ws calls w .told) (i * numbersEach) 0 ≡ saidIn (callIn ws calls w i) (roomIn ws calls w i) .refusal
   -- each number and each float behind it
-  pub numbers : (i k : ℕ) → i < length calls / 4 → i * 40 + k < length (w .told)
+  pub numbers : (i k : ℕ) → i < length calls / 4 → i * numbersEach + k < length (w .told)
       → k < length (toldIn (saidIn (callIn ws calls w i) (roomIn ws calls w i)))
-      → getD (play ws calls w .told) (i * 40 + k) 0
+      → getD (play ws calls w .told) (i * numbersEach + k) 0
       ≡ getD (toldIn (saidIn (callIn ws calls w i) (roomIn ws calls w i))) k 0
-  pub floats : (i k : ℕ) (d : Float) → i < length calls / 4 → i * 2 + k < length (w .floats)
+  pub floats : (i k : ℕ) (d : Float) → i < length calls / 4 → i * floatsEach + k < length (w .floats)
       → k < length (saidIn (callIn ws calls w i) (roomIn ws calls w i) .floats)
-      → getD (play ws calls w .floats) (i * 2 + k) d
+      → getD (play ws calls w .floats) (i * floatsEach + k) d
       ≡ getD (saidIn (callIn ws calls w i) (roomIn ws calls w i) .floats) k d

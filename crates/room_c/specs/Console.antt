@@ -1,7 +1,7 @@
 -- Document 01, "Where each language form belongs", entries on slices and numbers: a room opened and called by lent
 -- lists of numbers, and its account as such a list. A place past the end reads as 0, and nothing is put there. Assumes
 -- nothing.
-use Prim.Native.Nat.{ℕ, _+_, _*_, _/_, _%_, _^_}
+use Prim.Native.Nat.{ℕ, _+_, _-_, _*_, _/_, _%_, _^_}
 use mathlib.Core.List.{List, [], _∷_, _++_, map}
 use mathlib.Core.Option.{Option, none, some}
 use lib.Dec.{eqb}
@@ -104,6 +104,13 @@ abbrev pub partReadings : List ℕ → ℕ → ℕ → List Reading
 partReadings text a b =
     node a ∷ «packet_text» a text ∷ «log_len» a ∷ «log_entry» a b ∷ pending a b ∷ «record» a ∷ []
 
+-- what those of a number from 4 on, or from 18 on, say; for a number beyond, which the table has not, the last
+abbrev pub wholeSaid : ℕ → Room → Said
+wholeSaid which r = said (answerOf (getD wholeReadings (which - 4) «proposal_outcome») r)
+
+abbrev pub partSaid : List ℕ → ℕ → ℕ → ℕ → Room → Said
+partSaid text a b which r = said (answerOf (getD (partReadings text a b) (which - 18) («record» a)) r)
+
 -- The calls, each at the place that is its number: 0 none, 1 propose, 2 capture round, 3 pipeline round, from 4 on the
 -- readings of the whole room, from 18 on the others. Of its three arguments a is a position or a record's place, b a
 -- round's cursor, a log's place or a transaction, c the rows used.
@@ -149,19 +156,33 @@ rowsLeft rows (CaptureRound ws cursor lent used) r = captureBuffer ws lent used 
 rowsLeft rows (PipelineRound ws cursor lent used) r = pipelineBuffer ws lent used r cursor
 rowsLeft rows (Read q) r = rows
 
--- Each call has 40 places for its numbers and two for its floats. What is no call tells refusal 0, and leaves the rest.
+-- the places of each call in the two lists
+abbrev pub numbersEach : ℕ
+numbersEach = 40
+
+abbrev pub floatsEach : ℕ
+floatsEach = 2
+
+-- what is no call tells that there is no refusal
+abbrev pub untold : ℕ → List ℕ → List ℕ
+untold i told = set told (i * numbersEach) 0
+
 unfoldable pub called : ℕ → Option Call → Calling → Calling
 called i none w =
-    record { rows = w .rows; told = set (w .told) (i * 40) 0; floats = w .floats; text = w .text; room = w .room }
+    record { rows = w .rows; told = untold i (w .told); floats = w .floats; text = w .text; room = w .room }
 called i (some c) w =
     let s = callSaid c (w .room) in
     record {
       rows = rowsLeft (w .rows) c (w .room);
-      told = sets (w .told) (i * 40) (toldIn s);
-      floats = sets (w .floats) (i * 2) (s .floats);
+      told = sets (w .told) (i * numbersEach) (toldIn s);
+      floats = sets (w .floats) (i * floatsEach) (s .floats);
       text = s .text (w .text);
       room = handed c (w .room);
     }
+
+-- call i, by its numbers
+abbrev pub callOf : List ℕ → ℕ → ℕ → ℕ → ℕ → ℕ → Calling → Calling
+callOf ws i which a b c w = called i (callBy ws w which a b c) w
 
 abbrev pub turn : List ℕ → List ℕ → ℕ → Calling → Calling
 turn ws calls i w = called i (callAt ws calls i w) w

@@ -1,5 +1,5 @@
-// What calls tell of their answers, in lent lists: numbers from a place on, the refusal in front, and floats from a place
-// on. A place past the end gets nothing.
+// What calls tell of their answers, in lent lists: numbers from a place on, the refusal in front, and floats from a
+// place on. A place past the end gets nothing.
 ghost use mathlib.Core.Path.{_≡_};
 ghost use mathlib.Core.List.{[], _∷_};
 ghost use lib.ListN.{set};

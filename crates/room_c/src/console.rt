@@ -4,29 +4,30 @@
 //     timeout, repeats (its low 32 digits), slots of a round, whether these are given
 //   links: a row for each position
 //   calls: four numbers each, which call it is and a, b, c. Fewer than four numbers at the end are no call
-//      1 propose by a
-//      2 capture round, 3 pipeline round from cursor b on, with c rows used
-//      4 kind, 5 num_nodes, 6 settings, 7 slot, 8 next_row, 9 bytes_sent, 10 metrics, 11 link_pdr, 12 flood_coverage,
+//     1 propose by a
+//     2 capture round, 3 pipeline round: from cursor b on, with c rows used
+//     4 kind, 5 num_nodes, 6 settings, 7 slot, 8 next_row, 9 bytes_sent, 10 metrics, 11 link_pdr, 12 flood_coverage,
 //     13 term, 14 round, 15 stopped, 16 initiator, 17 proposal_outcome
-//     18 node a, 19 packet_text of a, 20 log_len of a, 21 log_entry b of a, 22 pending transaction b of a, 23 record a
+//     18 node a, 19 packet_text of a, 20 log_len of a, 21 log_entry of a at b, 22 pending of a, transaction b
+//     23 record at a
 //     any other number: no call
-//   told: 40 numbers for each call: its refusal, and behind it what it answers: of a round the cursor and the rows used,
-//     of a reading its fields in order; of a text the length. The rest stays as it is
+//   told: 40 numbers for each call: its refusal, and behind it what it answers, of a round the cursor and the rows
+//     used, of a reading its fields in order, of a text the length. The rest of the 40 stays as it is
 //   floats: two for each call: of the settings loss and abort probability, of a ratio its value
 //   text: the buffer that packet_text writes to
 //   out: a room as in the pipeline's console, but for the cursor and the rows used, which are 0; from 9749 on term,
-//     initiator, whether anybody proposed, whether the progress was raised; from 9753 on what positions hold, 38 numbers
-//     each; 12185 in all
+//     initiator, whether anybody proposed, whether the progress was raised; from 9753 on what positions hold, 38
+//     numbers each; 12185 in all
 // A place past the end of a list reads as 0, and nothing is put there. Loss and abort probability go over as floats,
 // because a NaN has no number here.
 ghost use mathlib.Core.Path.{_≡_};
-ghost use Prim.Native.Nat.{_+_, _-_, _*_, _<_, _≤_, _^_};
-ghost use lib.ListN.{getD};
+ghost use Prim.Native.Nat.{_<_, _≤_, _^_};
 ghost use lib.Seq.{sets};
-ghost use Rattle.readings.specs.Calls.{«proposal_outcome», «record», answerOf};
-ghost use Rattle.demand.specs.Calls.{Propose, Read, handed};
-ghost use Rattle.room_c.specs.Answers.{said, toldIn};
-ghost use Rattle.room_c.specs.Console.{kindNumbered, settingsBy, askedBy, openingBy, wholeReadings, partReadings, callBy, called, roundSaid, callSaid, turn, play, playedBy, termNumbers, putRoom, runFrom, Calling, Run};
+ghost use Rattle.demand.specs.Calls.{Propose, handed};
+ghost use Rattle.room_c.specs.Answers.{toldIn};
+ghost use Rattle.room_c.specs.Console.{kindNumbered, settingsBy, askedBy, openingBy, wholeSaid, partSaid};
+ghost use Rattle.room_c.specs.Console.{roundSaid, callSaid, callOf, turn, play, Calling};
+ghost use Rattle.room_c.specs.Console.{playedBy, termNumbers, putRoom, runFrom, Run};
 use super::answers;
 use engines::settings::Settings;
 use engines_c::numbers;
@@ -131,8 +132,8 @@ fn tell_round(told: &mut [u64], at: usize, a: RoundAnswer) -> Room
 // A reading of the whole room.
 fn read_whole(told: &mut [u64], at: usize, floats: &mut [f64], f: usize, which: u64, r: Room)
     requires { ⌜ 4 ≤ which ⌝ }
-    ensures { λ _. ⌜ now (told .exit) ≡ sets (now (told .entry)) at (toldIn (said (answerOf (getD wholeReadings (which - 4) «proposal_outcome») r))) ⌝ }
-    ensures { λ _. ⌜ now (floats .exit) ≡ sets (now (floats .entry)) f (said (answerOf (getD wholeReadings (which - 4) «proposal_outcome») r) .floats) ⌝ }
+    ensures { λ _. ⌜ now (told .exit) ≡ sets (now (told .entry)) at (toldIn (wholeSaid which r)) ⌝ }
+    ensures { λ _. ⌜ now (floats .exit) ≡ sets (now (floats .entry)) f (wholeSaid which r .floats) ⌝ }
 {
     match which {
         4 => answers::tell(told, at, 0, answers::kind_number(reading::kind(r))),
@@ -155,8 +156,9 @@ fn read_whole(told: &mut [u64], at: usize, floats: &mut [f64], f: usize, which: 
 // A reading of a position or a place.
 fn read_part(told: &mut [u64], at: usize, text: &mut [u8], which: u64, a: usize, b: usize, r: Room)
     requires { ⌜ 18 ≤ which ⌝ }
-    ensures { λ _. ⌜ now (told .exit) ≡ sets (now (told .entry)) at (toldIn (said (answerOf (getD (partReadings (now (text .entry)) a b) (which - 18) («record» a)) r))) ⌝ }
-    ensures { λ _. ⌜ now (text .exit) ≡ said (answerOf (getD (partReadings (now (text .entry)) a b) (which - 18) («record» a)) r) .text (now (text .entry)) ⌝ }
+    ensures { λ _. ⌜ now (told .exit) ≡
+        sets (now (told .entry)) at (toldIn (partSaid (now (text .entry)) a b which r)) ⌝ }
+    ensures { λ _. ⌜ now (text .exit) ≡ partSaid (now (text .entry)) a b which r .text (now (text .entry)) ⌝ }
 {
     match which {
         18 => answers::tell_node(told, at, reading::node(r, a)),
@@ -183,8 +185,21 @@ fn call(
     r: Room,
 ) -> Room
     requires { ⌜ i < 2 ^ 58 ⌝ }
-    ensures { λ q. ⌜ record { rows = now (rows .exit); told = now (told .exit); floats = now (floats .exit); text = now (text .exit); room = q }
-        ≡ called i (callBy (now (words .entry)) (record { rows = now (rows .entry); told = now (told .entry); floats = now (floats .entry); text = now (text .entry); room = r }) which a b c) (record { rows = now (rows .entry); told = now (told .entry); floats = now (floats .entry); text = now (text .entry); room = r }) ⌝ }
+    ensures { λ q. ⌜ record {
+      rows = now (rows .exit);
+      told = now (told .exit);
+      floats = now (floats .exit);
+      text = now (text .exit);
+      room = q;
+    } ≡
+        callOf (now (words .entry)) i which a b c
+        (record {
+          rows = now (rows .entry);
+          told = now (told .entry);
+          floats = now (floats .entry);
+          text = now (text .entry);
+          room = r;
+        }) ⌝ }
 {
     let at = i * NUMBERS;
     let f = i * FLOATS;
@@ -225,8 +240,21 @@ fn call_at(
     r: Room,
 ) -> Room
     requires { ⌜ i < 2 ^ 58 ⌝ }
-    ensures { λ q. ⌜ record { rows = now (rows .exit); told = now (told .exit); floats = now (floats .exit); text = now (text .exit); room = q }
-        ≡ turn (now (words .entry)) (now (calls .entry)) i (record { rows = now (rows .entry); told = now (told .entry); floats = now (floats .entry); text = now (text .entry); room = r }) ⌝ }
+    ensures { λ q. ⌜ record {
+      rows = now (rows .exit);
+      told = now (told .exit);
+      floats = now (floats .exit);
+      text = now (text .exit);
+      room = q;
+    } ≡
+        turn (now (words .entry)) (now (calls .entry)) i
+        (record {
+          rows = now (rows .entry);
+          told = now (told .entry);
+          floats = now (floats .entry);
+          text = now (text .entry);
+          room = r;
+        }) ⌝ }
 {
     let k = i * 4;
     let which = numbers::number(calls, k);
@@ -245,8 +273,21 @@ fn play_calls(
     text: &mut [u8],
     start: Room,
 ) -> Room
-    ensures { λ q. ⌜ record { rows = now (rows .exit); told = now (told .exit); floats = now (floats .exit); text = now (text .exit); room = q }
-        ≡ play (now (words .entry)) (now (calls .entry)) (record { rows = now (rows .entry); told = now (told .entry); floats = now (floats .entry); text = now (text .entry); room = start }) ⌝ }
+    ensures { λ q. ⌜ record {
+      rows = now (rows .exit);
+      told = now (told .exit);
+      floats = now (floats .exit);
+      text = now (text .exit);
+      room = q;
+    } ≡
+        play (now (words .entry)) (now (calls .entry))
+        (record {
+          rows = now (rows .entry);
+          told = now (told .entry);
+          floats = now (floats .entry);
+          text = now (text .entry);
+          room = start;
+        }) ⌝ }
 {
     let count = calls.len() / 4;
     let mut r = start;
@@ -317,8 +358,17 @@ pub extern "C" fn room_run(
     text: &mut [u8],
     out: &mut [u64],
 ) -> u64
-    ensures { λ r. ⌜ record { answer = r; rows = now (rows .exit); told = now (told .exit); floats = now (floats .exit); text = now (text .exit); out = now (out .exit) }
-        ≡ runFrom (openingBy (now (setup .entry)) «loss_rate» «abort_probability» (now (links .entry))) (now (words .entry)) (now (calls .entry)) (now (rows .entry)) (now (told .entry)) (now (floats .entry)) (now (text .entry)) (now (out .entry)) ⌝ }
+    ensures { λ r. ⌜ record {
+      answer = r;
+      rows = now (rows .exit);
+      told = now (told .exit);
+      floats = now (floats .exit);
+      text = now (text .exit);
+      out = now (out .exit);
+    } ≡
+        runFrom (openingBy (now (setup .entry)) «loss_rate» «abort_probability» (now (links .entry)))
+        (now (words .entry)) (now (calls .entry)) (now (rows .entry)) (now (told .entry)) (now (floats .entry))
+        (now (text .entry)) (now (out .entry)) ⌝ }
 {
     let o = open_by(setup, loss_rate, abort_probability, links);
     if o.refusal != 0 {

@@ -6,9 +6,9 @@
 //   15 first word, what each is more than the one before it, how many
 //   18 numbers in the row buffer, bytes in the buffer for texts
 //   20 four numbers for each call, as there
-// The answer is the refusal of the opening. Then, behind a comma each, what the calls tell: all numbers up to the last that
-// is not 0, and behind a stroke each float, times 2^63. At the end, behind semicolons, a digest of the row buffer, and the
-// buffer for texts up to its last byte that is not 0.
+// The answer is the refusal of the opening. Then, behind a comma each, what the calls tell: all numbers up to the last
+// that is not 0, and behind a stroke each float, times 2^63. At the end, behind semicolons, a digest of the row buffer,
+// and the buffer for texts up to its last byte that is not 0.
 ghost use Prim.Native.Nat.{_≤_};
 use engines_c::numbers;
 use graph::network::NetworkGraph;

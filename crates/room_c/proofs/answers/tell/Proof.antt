@@ -4,6 +4,11 @@ use borrow.Author.Needs.{needs}
 use Rattle.room_c.proofs.answers.tell.Statement.{statement}
 use Rattle.room_c.proofs.answers.tell.Tie as tie
 
+returns : tie.Need-returns
+returns c =
+    let c2 = c .before .before in
+    c2 .put-run .ensures ∙ rw add-zero
+
 pub tell-spec : {M : Type 1} → statement M
 tell-spec =
     tie.close
@@ -11,4 +16,4 @@ tell-spec =
     (λ c. search needs)
     (λ c κs. search needs)
     (λ c. search needs)
-    (λ c. c .before .before .put-run .ensures ∙ rw add-zero))
+    returns)

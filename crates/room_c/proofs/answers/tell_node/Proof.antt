@@ -8,7 +8,9 @@ use Rattle.room_c.proofs.answers.tell_node.Tie as tie
 returns : tie.Need-returns
 unfolding said
 returns c =
-    c .before .before .put-node .ensures ∙ rw (add-one, c .before .before .before .before .before .before .put .ensures)
+    let c2 = c .before .before in
+    let c6 = c2 .before .before .before .before in
+    c2 .put-node .ensures ∙ rw (add-one, c6 .put .ensures)
 
 pub tell-node-spec : {M : Type 1} → statement M
 tell-node-spec =

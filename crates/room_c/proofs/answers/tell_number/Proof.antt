@@ -6,7 +6,8 @@ use Rattle.room_c.proofs.answers.tell_number.Tie as tie
 returns : tie.Need-returns
 unfolding said
 returns c =
-    c .before .before .tell .ensures
+    let c2 = c .before .before in
+    c2 .tell .ensures
 
 pub tell-number-spec : {M : Type 1} → statement M
 tell-number-spec =

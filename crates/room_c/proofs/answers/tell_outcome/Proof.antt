@@ -7,7 +7,9 @@ use Rattle.room_c.proofs.answers.tell_outcome.Tie as tie
 returns : tie.Need-returns
 unfolding said
 returns c =
-    c .before .before .tell .ensures ∙ rw (c .before .before .before .outcome-number .ensures)
+    let c2 = c .before .before in
+    let c3 = c2 .before in
+    c2 .tell .ensures ∙ rw (c3 .outcome-number .ensures)
 
 pub tell-outcome-spec : {M : Type 1} → statement M
 tell-outcome-spec =

@@ -8,7 +8,8 @@ use Rattle.room_c.proofs.answers.tell_record.Tie as tie
 returns : tie.Need-returns
 unfolding said
 returns c =
-    c .before .before .put-run .ensures ∙ rw add-zero
+    let c2 = c .before .before in
+    c2 .put-run .ensures ∙ rw add-zero
 
 pub tell-record-spec : {M : Type 1} → statement M
 tell-record-spec =

@@ -8,7 +8,9 @@ use Rattle.room_c.proofs.answers.tell_settings.Tie as tie
 returns : tie.Need-returns
 unfolding said
 returns c =
-    (c .before .before .before .before .before .before .put-run .ensures ∙ rw add-zero, c .before .before .put-floats .ensures)
+    let c2 = c .before .before in
+    let c6 = c2 .before .before .before .before in
+    (c6 .put-run .ensures ∙ rw add-zero, c2 .put-floats .ensures)
 
 pub tell-settings-spec : {M : Type 1} → statement M
 tell-settings-spec =

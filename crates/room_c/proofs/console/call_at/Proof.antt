@@ -6,7 +6,13 @@ use Rattle.room_c.proofs.console.call_at.Tie as tie
 returns : tie.Need-returns
 unfolding callAt
 returns c =
-    rw (← c .before .before .before .before .before .before .before .before .before .before .before .before .before .before .before .before .number .ensures, ← c .before .before .before .before .before .before .before .before .before .before .before .before .before .before .before .number2 .ensures, ← c .before .before .before .before .before .before .before .before .before .before .before .before .before .before .number3 .ensures, ← c .before .before .before .before .before .before .before .before .before .before .before .before .before .number4 .ensures) (c .before .before .before .before .before .before .before .before .call .ensures)
+    let c8 = c .before .before .before .before .before .before .before .before in
+    let c13 = c8 .before .before .before .before .before in
+    let c14 = c13 .before in
+    let c15 = c14 .before in
+    let c16 = c15 .before in
+    rw (← c16 .number .ensures, ← c15 .number2 .ensures, ← c14 .number3 .ensures, ← c13 .number4 .ensures)
+    (c8 .call .ensures)
 
 pub call-at-spec : {M : Type 1} → statement M
 call-at-spec =

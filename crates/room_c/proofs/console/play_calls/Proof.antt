@@ -21,10 +21,70 @@ Inv-loop words rows₀ calls told₀ floats₀ text₀ count r₀ i₀ rows told
 abbrev μ-loop : tie.MeasureT-loop
 μ-loop words rows₀ calls told₀ floats₀ text₀ count r₀ i₀ rows told floats text r i = count - i
 
+add-i : tie.Need-add-i Inv-loop μ-loop
+add-i c =
+    let c13 = c .before .before .before .before .before .before .before .before .before .before .before .before .before in
+    let c21 = c13 .before .before .before .before .before .before .before .before in
+    omega (arith, c13 .loop-test .taken, c21)
+
+loop-less : tie.Need-loop-less Inv-loop μ-loop
+loop-less c =
+    let c13 = c .before .before .before .before .before .before .before .before .before .before .before .before .before in
+    omega (arith, c13 .loop-test .taken)
+
+loop-again : tie.Need-loop-again Inv-loop μ-loop
+loop-again c =
+    let c1 = c .before in
+    let c3 = c1 .before .before in
+    let c5 = c3 .before .before in
+    let c7 = c5 .before .before in
+    let c8 = c7 .before in
+    let c13 = c8 .before .before .before .before .before in
+    let c14 = c13 .before in
+    let k = c14 .loop .inv .1 in
+    let h = c13 .loop-test .taken in (
+      omega arith,
+      (
+        c7 .rows .given ∙ k .0,
+        (
+          c5 .told .given ∙ k .1 .0,
+          (
+            c3 .floats .given ∙ k .1 .1 .0,
+            (
+              c1 .text .given ∙ k .1 .1
+                  .1 .0,
+              upto-turn _ _ (k .1 .1 .1 .1) (c8 .call-at .ensures),
+            ),
+          ),
+        ),
+      ),
+    )
+
+same-length : tie.Need-same-length Inv-loop μ-loop
+same-length c =
+    let c1 = c .before in
+    c1 .loop .inv .1 .0
+
+same-length-2 : tie.Need-same-length-2 Inv-loop μ-loop
+same-length-2 c =
+    let c1 = c .before in
+    c1 .loop .inv .1 .1 .0
+
+same-length-3 : tie.Need-same-length-3 Inv-loop μ-loop
+same-length-3 c =
+    let c1 = c .before in
+    c1 .loop .inv .1 .1 .1 .0
+
+same-length-4 : tie.Need-same-length-4 Inv-loop μ-loop
+same-length-4 c =
+    let c1 = c .before in
+    c1 .loop .inv .1 .1 .1 .1 .0
+
 returns : tie.Need-returns Inv-loop μ-loop
 unfolding playFirst
 returns c =
-    upto-all _ _ (c .before .loop .inv .0) (c .loop-test .left) (c .before .loop .inv .1 .1 .1 .1 .1)
+    let c1 = c .before in
+    upto-all _ _ (c1 .loop .inv .0) (c .loop-test .left) (c1 .loop .inv .1 .1 .1 .1 .1)
 
 pub play-calls-spec : {M : Type 1} → statement M
 play-calls-spec =
@@ -34,11 +94,11 @@ play-calls-spec =
     μ-loop
     (λ c. (omega arith, (refl, (refl, (refl, (refl, upto-none _ _))))))
     (λ c κs. search needs)
-    (λ c. omega (arith, c .before .before .before .before .before .before .before .before .before .before .before .before .before .loop-test .taken, c .before .before .before .before .before .before .before .before .before .before .before .before .before .before .before .before .before .before .before .before .before))
-    (λ c. omega (arith, c .before .before .before .before .before .before .before .before .before .before .before .before .before .loop-test .taken))
-    (λ c. (omega (arith, c .before .before .before .before .before .before .before .before .before .before .before .before .before .loop-test .taken), (c .before .before .before .before .before .before .before .rows .given ∙ c .before .before .before .before .before .before .before .before .before .before .before .before .before .before .loop .inv .1 .0, (c .before .before .before .before .before .told .given ∙ c .before .before .before .before .before .before .before .before .before .before .before .before .before .before .loop .inv .1 .1 .0, (c .before .before .before .floats .given ∙ c .before .before .before .before .before .before .before .before .before .before .before .before .before .before .loop .inv .1 .1 .1 .0, (c .before .text .given ∙ c .before .before .before .before .before .before .before .before .before .before .before .before .before .before .loop .inv .1 .1 .1 .1 .0, upto-turn _ _ (c .before .before .before .before .before .before .before .before .before .before .before .before .before .before .loop .inv .1 .1 .1 .1 .1) (c .before .before .before .before .before .before .before .before .call-at .ensures)))))))
-    (λ c. c .before .loop .inv .1 .0)
-    (λ c. c .before .loop .inv .1 .1 .0)
-    (λ c. c .before .loop .inv .1 .1 .1 .0)
-    (λ c. c .before .loop .inv .1 .1 .1 .1 .0)
+    add-i
+    loop-less
+    loop-again
+    same-length
+    same-length-2
+    same-length-3
+    same-length-4
     returns)

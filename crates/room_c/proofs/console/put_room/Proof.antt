@@ -6,7 +6,13 @@ use Rattle.room_c.proofs.console.put_room.Tie as tie
 returns : tie.Need-returns
 unfolding putRoom
 returns c =
-    rw (c .before .before .put-held .ensures, c .before .before .before .before .before .before .put-run .ensures, c .before .before .before .before .before .before .before .before .before .before .before .put-played .ensures, c .before .before .before .before .before .before .before .before .before .before .before .before .before .before .before .term-numbers .ensures, c .before .before .before .before .before .before .before .before .before .before .before .before .before .before .before .before .played-by .ensures)
+    let c2 = c .before .before in
+    let c6 = c2 .before .before .before .before in
+    let c11 = c6 .before .before .before .before .before in
+    let c15 = c11 .before .before .before .before in
+    let c16 = c15 .before in
+    rw
+    (c2 .put-held .ensures, c6 .put-run .ensures, c11 .put-played .ensures, c15 .term-numbers .ensures, c16 .played-by .ensures)
 
 pub put-room-spec : {M : Type 1} → statement M
 put-room-spec =

@@ -12,32 +12,55 @@ use Rattle.room_c.proofs.console.read_part.Tie as tie
 returns : tie.Need-returns
 unfolding said answerOf
 returns c =
-    rw (c .before .before .before .before .before .match .keys1) (c .before .before .tell-node .ensures ∙ rw (c .before .before .before .node .ensures), refl)
+    let c2 = c .before .before in
+    let c3 = c2 .before in
+    let c5 = c3 .before .before in
+    rw (c5 .match .keys1) (c2 .tell-node .ensures ∙ rw (c3 .node .ensures), refl)
 
 returns-2 : tie.Need-returns-2
 unfolding said answerOf
 returns-2 c =
-    rw (c .before .before .before .before .before .before .before .before .match .keys2) (c .before .before .tell-text .ensures ∙ rw (c .before .before .before .before .before .packet-text .ensures .0), c .before .before .before .before .before .packet-text .ensures .1)
+    let c2 = c .before .before in
+    let c5 = c2 .before .before .before in
+    let c8 = c5 .before .before .before in
+    rw (c8 .match .keys2) (c2 .tell-text .ensures ∙ rw (c5 .packet-text .ensures .0), c5 .packet-text .ensures .1)
 
 returns-3 : tie.Need-returns-3
 unfolding said answerOf
 returns-3 c =
-    rw (c .before .before .before .before .before .match .keys3) (c .before .before .tell-number .ensures ∙ rw (c .before .before .before .log-len .ensures), refl)
+    let c2 = c .before .before in
+    let c3 = c2 .before in
+    let c5 = c3 .before .before in
+    rw (c5 .match .keys3) (c2 .tell-number .ensures ∙ rw (c3 .log-len .ensures), refl)
 
 returns-4 : tie.Need-returns-4
 unfolding said answerOf
 returns-4 c =
-    rw (c .before .before .before .before .before .match .keys4) (c .before .before .tell-entry .ensures ∙ rw (c .before .before .before .log-entry .ensures), refl)
+    let c2 = c .before .before in
+    let c3 = c2 .before in
+    let c5 = c3 .before .before in
+    rw (c5 .match .keys4) (c2 .tell-entry .ensures ∙ rw (c3 .log-entry .ensures), refl)
 
 returns-5 : tie.Need-returns-5
 unfolding said answerOf
 returns-5 c =
-    rw (c .before .before .before .before .before .match .keys5) (c .before .before .tell-pending .ensures ∙ rw (c .before .before .before .pending .ensures), refl)
+    let c2 = c .before .before in
+    let c3 = c2 .before in
+    let c5 = c3 .before .before in
+    rw (c5 .match .keys5) (c2 .tell-pending .ensures ∙ rw (c3 .pending .ensures), refl)
 
 returns-6 : tie.Need-returns-6
 unfolding said answerOf
 returns-6 c =
-    let which = c .before .before .before .before .before .before .before .before .args .which in let rest = c .before .before .before .before .before .match .rest in let h : 23 ≤ which = past (past (past (past (past (c .before .before .before .before .before .before .before .before .pre) (rest .0 .0 .0 .0 .1)) (rest .0 .0 .0 .1)) (rest .0 .0 .1)) (rest .0 .1)) (rest .1) in rw (getD-last (partReadings (c .before .before .before .before .before .before .before .before .args .text .now) (c .before .before .before .before .before .before .before .before .args .a) (c .before .before .before .before .before .before .before .before .args .b)) («record» (c .before .before .before .before .before .before .before .before .args .a)) 5 (which - 18) (omega arith) refl (omega arith)) (c .before .before .tell-record .ensures ∙ rw (c .before .before .before .«record» .ensures), refl)
+    let c2 = c .before .before in
+    let c3 = c2 .before in
+    let c5 = c3 .before .before in
+    let c8 = c5 .before .before .before in
+    let k = c8 .args .which in
+    let h : 23 ≤ k = past k 18 5 (c8 .pre) (c5 .match .rest) in
+    let all = partReadings (c8 .args .text .now) (c8 .args .a) (c8 .args .b) in
+    rw (getD-last all («record» (c8 .args .a)) 5 (k - 18) (omega arith) refl (omega arith))
+    (c2 .tell-record .ensures ∙ rw (c3 .«record» .ensures), refl)
 
 pub read-part-spec : {M : Type 1} → statement M
 read-part-spec =

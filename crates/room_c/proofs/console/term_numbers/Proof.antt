@@ -6,8 +6,7 @@ use Rattle.room_c.proofs.console.term_numbers.Tie as tie
 
 returns : tie.Need-returns
 unfolding termNumbers
-returns c =
-    refl
+returns c = refl
 
 pub term-numbers-spec : {M : Type 1} → statement M
 term-numbers-spec =
