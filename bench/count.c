@@ -12,17 +12,18 @@
 #include "random.h"
 
 uint64_t room_run(const uint64_t *setup, size_t, double loss, double abort, const uint64_t *links, size_t,
-                  const uint64_t *words, size_t, uint64_t *rows, size_t, const uint64_t *calls, size_t, uint64_t *out,
-                  size_t);
+                  const uint64_t *words, size_t, uint64_t *rows, size_t, const uint64_t *calls, size_t, uint64_t *told,
+                  size_t, double *floats, size_t, uint8_t *text, size_t, uint64_t *out, size_t);
 
-/* places in the account: slot, rows used and cursor */
-enum { SLOT = 0, USED = 5, CURSOR = 6, ACCOUNT = 12187, FOREVER = 0xffffffff };
+/* the slot's place in the account; the numbers told of a call, and the places among them of its refusal and of a round's
+   cursor and rows used */
+enum { SLOT = 0, ACCOUNT = 12185, EACH = 40, REFUSAL = 0, CURSOR = 1, USED = 2, FOREVER = 0xffffffff };
 
 static uint64_t n, proposals, timeout, slots;
 static double loss;
 static uint64_t *words;
 static size_t lent;
-static uint64_t account[ACCOUNT];
+static uint64_t account[ACCOUNT], told[2 * 64 * EACH];
 
 static void line(void)
 {
@@ -39,21 +40,27 @@ static void play(const uint64_t *calls, size_t count)
 {
     const uint64_t setup[10] = {2, 0, 0, FOREVER, FOREVER, 0, timeout, 1, slots, 1};
     uint64_t links[64], rows[5];
+    double floats[1];
+    uint8_t text[1];
     for (uint64_t i = 0; i < n; i++)
         links[i] = (n == 64 ? ~0ull : (1ull << n) - 1) & ~(1ull << i);
-    if (room_run(setup, 10, loss, 0.0, links, n, words, lent, rows, 5, calls, 4 * count, account, ACCOUNT) != 0)
+    if (room_run(setup, 10, loss, 0.0, links, n, words, lent, rows, 5, calls, 4 * count, told, EACH * count, floats, 0,
+                 text, 0, account, ACCOUNT) != 0)
         exit(1);
+    for (size_t i = 0; i < count; i++)
+        if (told[EACH * i + REFUSAL] != 0)
+            exit(1);
 }
 
 /* Each round starts at the cursor where the one before it ended, so the calls are made again with one round more. */
 static uint64_t slots_of(void)
 {
-    uint64_t calls[2 * 64 * 4] = {0};
-    account[USED] = account[CURSOR] = 0;
+    uint64_t calls[2 * 64 * 4] = {0}, cursor = 0, used = 0;
     for (uint64_t k = 0; k < proposals; k++) {
         uint64_t *c = calls + 8 * k;
-        c[0] = 1, c[1] = k % n, c[4] = 2, c[6] = account[CURSOR], c[7] = account[USED];
+        c[0] = 1, c[1] = k % n, c[4] = 2, c[6] = cursor, c[7] = used;
         play(calls, 2 * k + 2);
+        cursor = told[EACH * (2 * k + 1) + CURSOR], used = told[EACH * (2 * k + 1) + USED];
     }
     return account[SLOT];
 }

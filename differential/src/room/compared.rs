@@ -727,7 +727,7 @@ fn list(t: &mut Tally, m: &mut Met, r: &mut Prng, s: &Setup) {
         }
         let readings = readings_of(r, &l.side);
         l.compare(t, m, r, &readings);
-        for v in some_of(r, s.n(), 3) {
+        for v in some_of(r, s.n(), 6) {
             l.compare_text(t, m, r, v);
         }
     }
