@@ -1,4 +1,4 @@
--- Document 01, "Capture round": a target hears a flooding position that has it as neighbour, or nobody; and only a listening
+-- RULES 8.3 and 8.4: a target hears a flooding position that has it as neighbour, or nobody; and only a listening
 -- position that is due recovers. Assumes nothing.
 use Prim.Native.Nat.{ℕ, zero, suc, _+_, _-_, _≤_, _<_}
 use mathlib.Core.Bool.{Bool, true, false, true≢false, _||_}

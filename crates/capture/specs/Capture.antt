@@ -1,4 +1,5 @@
--- Document 01, "Capture round", a slot: tick, row, goal test, coins, captures, merges, next states; and the round. Assumes nothing.
+-- RULES 8.1, 8.2 and 8.8, a slot: tick, row, goal test, coins, captures, merges, next states; and the round. Assumes
+-- nothing.
 use mathlib.Core.Bool.{Bool, true, false}
 use mathlib.Core.List.{List}
 use Prim.Native.Nat.{ℕ, _+_, _*_, _%_, _^_}
@@ -45,7 +46,8 @@ goalMet conf c =
 abbrev pub newsOf : Plan → SlotMerges → News
 newsOf p t = record { recovering = p .recovering; «new_info» = t .«new_info»; «goal_reached» = t .«goal_reached»; «can_sleep» = t .«can_sleep» }
 
--- Coins and captures are planned, then all merge what was held at the slot's start, then states change. Flooders send what they held at the slot's start.
+-- Coins and captures are planned, then all merge what was held at the slot's start, then states change. Flooders send
+-- what they held at the slot's start.
 abbrev pub applied : RoundConf → CeState → Plan → SlotMerges → CeState
 applied conf c p t =
     let w = c .network in

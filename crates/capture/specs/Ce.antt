@@ -1,4 +1,4 @@
--- Document 01, "Capture round" and "Slots, counts, rows": what a slot's plan does to what positions hold, and the bytes that are sent.
+-- RULES 8.5, 8.6 and 7.5: what a slot's plan does to what positions hold, and the bytes that are sent.
 -- Assumes nothing.
 use mathlib.Core.Bool.{Bool, true, false}
 use mathlib.Core.List.{List}
@@ -53,7 +53,8 @@ mergedFrom s held i src =
 unfoldable pub hearingOf : Voting → List ℕ → List Payload → ℕ → Merged
 hearingOf s hears held i = mergedFrom s held i (getD hears i 0)
 
--- What positions hold after a slot, and a mark for each whose merge was new to it, who then has reached its goal, and who can sleep by what it holds.
+-- What positions hold after a slot, and a mark for each whose merge was new to it, who then has reached its goal, and
+-- who can sleep by what it holds.
 pub record SlotMerges : Type 0 where
   pub held : List Payload
   pub «new_info» : ℕ

@@ -1,4 +1,5 @@
--- Document 01, "Capture round", over several slots at once: when nobody acts in them, and what they come to. No rule of 01 is said here. Assumes nothing.
+-- RULES none (see section 8.2), over several slots at once: when nobody acts in them, and what they come to. No rule
+-- is said here. Assumes nothing.
 use Prim.Native.Nat.{ℕ, _+_, _-_, _^_, _≤_, _<_}
 use mathlib.Core.Bool.{true, false}
 use mathlib.Core.List.{List, _++_}
@@ -17,7 +18,8 @@ use Rattle.engines.specs.Stretch.{Small, passing}
 pub record Waits (slot timeout k : ℕ) (v : Node) : Type 0 where
   pub early : isListen (v .state) ≡ true → slot - v .«last_progress_slot» + k ≤ timeout
 
--- In the k slots from here on nobody acts: the round goes on, no row is due, nobody floods, no coin is due, and nobody can sleep.
+-- In the k slots from here on nobody acts: the round goes on, no row is due, nobody floods, no coin is due, and nobody
+-- can sleep.
 pub record Idle (conf : RoundConf) (k : ℕ) (c : CeState) : Type 0 where
   pub small : Small (c .network)
   pub going : c .ended ≡ false

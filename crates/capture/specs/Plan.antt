@@ -1,4 +1,4 @@
--- Document 01, "Capture round", one slot from its coins to its captures: what the words decide, before anything is merged.
+-- RULES 8.3, 8.4 and 3.4, one slot from its coins to its captures: what the words decide, before anything is merged.
 -- A link from s to t says that t hears s: row s of the links has mark t. Assumes nothing.
 use Prim.Native.Nat.{ℕ, _+_, _-_, _%_, _^_, _<_}
 use mathlib.Core.Bool.{Bool, true, false, not, _&&_}
@@ -86,7 +86,8 @@ heardFrom ws loss f d = firstKept ws loss (f .count) (shuffled ws (f .count) (re
 unfoldable pub captureOf : List ℕ → Float → List ℕ → ℕ → ℕ → Draw → Heard
 captureOf ws loss links flooding t d = heardFrom ws loss (sendersOf links flooding t) d
 
--- Whom each target hears (64: nobody), and what was counted: every sender examined is an attempt, every survivor a success.
+-- Whom each target hears (64: nobody), and what was counted: every sender examined is an attempt, every survivor a
+-- success.
 pub record Captured : Type 0 where
   pub hears : List ℕ
   pub tally : Reception
@@ -125,7 +126,8 @@ capturesOf ws loss links targets flooding d = overMarks targets (captureAt ws lo
 
 -- ---- the plan
 
--- A mark for each position that recovers; whom each position hears, 64 where nobody; the cursor, and the slot's counts.
+-- A mark for each position that recovers; whom each position hears, 64 where nobody; the cursor, and the slot's
+-- counts.
 pub record Plan : Type 0 where
   pub recovering : ℕ
   pub hears : List ℕ

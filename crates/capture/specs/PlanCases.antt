@@ -1,4 +1,4 @@
--- Worked cases of a capture slot, computed over the rules themselves. Assumes nothing.
+-- RULES 8.3 and 8.4. Worked cases of a capture slot, computed over the rules themselves. Assumes nothing.
 use Prim.Native.Nat.{ℕ}
 use mathlib.Core.Bool.{true, false}
 use mathlib.Core.List.{List, [], _∷_}
@@ -44,9 +44,9 @@ abbrev planTwo : ℕ → ℕ → ℕ → ℕ → List ℕ
 planTwo slot listening flooding k =
     short (planOf coinWords none oneWay slot 1 two (record { listening = listening; flooding = flooding; sleeping = 0 }) (record { at = k; short = false }))
 
--- Two positions, of which 0 hears 1 and nobody hears 0; timeout 1; words no, yes, no. In slot 0 position 0 floods, nobody is due,
--- and 1 hears nobody. In slot 1 both listen and toss, and 1 recovers. In slot 2 position 1 floods; 0 tosses a no, and so stays a
--- target, which hears 1.
+-- Two positions, of which 0 hears 1 and nobody hears 0; timeout 1; words no, yes, no. In slot 0 position 0 floods,
+-- nobody is due, and 1 hears nobody. In slot 1 both listen and toss, and 1 recovers. In slot 2 position 1 floods; 0
+-- tosses a no, and so stays a target, which hears 1.
 recovery :
     (planTwo 0 2 1 0 ≡ 0 ∷ 0 ∷ 0 ∷ 0 ∷ 0 ∷ 64 ∷ 64 ∷ [])
     × (planTwo 1 3 0 0 ≡ 2 ∷ 2 ∷ 1 ∷ 0 ∷ 0 ∷ 64 ∷ 64 ∷ [])
@@ -59,8 +59,8 @@ always : short (planOf (0 ∷ []) none [] 5 0 two (record { listening = 1; flood
 unfolding upto downto go marks countOf overMarks withMark nextOf unitOf coinOf lostOf pickOf swapStep shuffled isLossy timedOut tossed1 coinsOf noteAt sendersOf examine1 firstKept heardFrom captureOf whom tallied captureAt targetsOf capturesOf planAfter planOf ofBits ofFields ofInt div round units odd size span climb lt le eq
 always = refl
 
--- Position 0 hears 1, 2 and 3, which flood; loss one half. First the picks, for 2 and for 1: the order is 1, 3, 2. Then the losses: 1 is
--- lost, 3 survives, and 2 is not examined.
+-- Position 0 hears 1, 2 and 3, which flood; loss one half. First the picks, for 2 and for 1: the order is 1, 3, 2.
+-- Then the losses: 1 is lost, 3 survives, and 2 is not examined.
 order : short (planOf (4 ∷ 1 ∷ 0 ∷ 0xFFFF_FFFF_FFFF_FFFF ∷ 0 ∷ []) half (0 ∷ 1 ∷ 1 ∷ 1 ∷ []) 5 100 two (record { listening = 1; flooding = 14; sleeping = 0 }) (record { at = 0; short = false })) ≡ 0 ∷ 4 ∷ 0 ∷ 2 ∷ 1 ∷ 3 ∷ 64 ∷ []
 unfolding upto downto go marks countOf overMarks withMark nextOf unitOf coinOf lostOf pickOf swapStep shuffled isLossy timedOut tossed1 coinsOf noteAt sendersOf examine1 firstKept heardFrom captureOf whom tallied captureAt targetsOf capturesOf planAfter planOf ofBits ofFields ofInt div round units odd size span climb lt le eq
 order = refl
@@ -77,7 +77,8 @@ lacking = refl
 
 -- ---- next states
 
--- One that can sleep floods once more before it sleeps, and wakes again from sleep; any other sleeper sleeps on; a flooder listens.
+-- One that can sleep floods once more before it sleeps, and wakes again from sleep; any other sleeper sleeps on; a
+-- flooder listens.
 states :
     (nextState Flood false true ≡ Sleep)
     × (nextState Sleep false true ≡ Flood)

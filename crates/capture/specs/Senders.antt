@@ -1,4 +1,4 @@
--- Document 02, point 11: a sender's payload does not change within a slot. Assumes nothing.
+-- RULES 8.5: a sender's payload does not change within a slot. Assumes nothing.
 use Prim.Native.Nat.{ℕ, _<_}
 use mathlib.Core.Bool.{true}
 use mathlib.Core.List.{List}

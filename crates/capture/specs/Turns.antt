@@ -1,4 +1,4 @@
--- Document 01, "Capture round": the states at a round's start, and each position's next state. Assumes nothing.
+-- RULES 8.1, 8.7 and 7.6: the states at a round's start, and each position's next state. Assumes nothing.
 use Prim.Native.Nat.{ℕ, _+_, _%_, _^_}
 use mathlib.Core.Bool.{Bool, _||_}
 use mathlib.Core.List.{List}
@@ -35,8 +35,8 @@ startAt initiator slot i l = set l i (started initiator slot i (getD l i noNode)
 unfoldable pub startedAll : ℕ → ℕ → ℕ → List Node → List Node
 startedAll n initiator slot l = upto (atMost64 n) (startAt initiator slot) l
 
--- The next state. One that can sleep goes from Flood to Sleep, and from any other state, Sleep too, to Flood. Any other floods
--- if it progressed, sleeps on if it slept, and else listens.
+-- The next state. One that can sleep goes from Flood to Sleep, and from any other state, Sleep too, to Flood. Any
+-- other floods if it progressed, sleeps on if it slept, and else listens.
 unfoldable pub nextState : NodeState → Bool → Bool → NodeState
 nextState s progressed canSleep = either canSleep (either (isFlood s) Sleep Flood) (either progressed Flood (either (isSleep s) Sleep Listen))
 
@@ -54,8 +54,8 @@ turned slot progressed newInfo goal canSleep v =
       «slots_sleep» = v .«slots_sleep»;
     }
 
--- What a slot brought, a mark for each position: its coin said yes; its merge was new to it; it then had reached its goal; what it holds at the slot's end
--- lets it sleep.
+-- What a slot brought, a mark for each position: its coin said yes; its merge was new to it; it then had reached its
+-- goal; what it holds at the slot's end lets it sleep.
 pub record News : Type 0 where
   pub recovering : ℕ
   pub «new_info» : ℕ

@@ -1,5 +1,5 @@
-// A capture round inside: sets of positions, a mark each, and a lent table of numbers, a column of 64 for each thing
-// that is kept of a position. So a slot copies neither positions nor payloads.
+// RULES none. A capture round inside: sets of positions, a mark each, and a lent table of numbers, a column of 64 for
+// each thing that is kept of a position. So a slot copies neither positions nor payloads.
 // specs/Boards.antt tells which state of the rules board and table show.
 ghost use mathlib.Core.Path.{_≡_};
 ghost use mathlib.Core.Bool.{true, false};

@@ -1,4 +1,5 @@
-// Ported from phy/ce.rs: a slot of a capture round, its repetition, and the round with its rows and refusals.
+// RULES 8.1, 8.2 and 8.8. Ported from phy/ce.rs: a slot of a capture round, its repetition, and the round with its
+// rows and refusals.
 ghost use mathlib.Core.Bool.{false};
 ghost use mathlib.Core.Path.{_≡_};
 ghost use Prim.Native.Nat.{_<_};

@@ -1,6 +1,6 @@
-// Ported from phy/ce.rs: what positions hold after a capture slot, and the bytes that its flooders send. A slot is
-// planned first (plan.rt), and then applied in place: whom a position hears floods, and who floods hears nobody, so
-// what is read in a slot does not change in it (specs/Senders.antt).
+// RULES 8.5 and 8.6. Ported from phy/ce.rs: what positions hold after a capture slot, and the bytes that its flooders
+// send. A slot is planned first (plan.rt), and then applied in place: whom a position hears floods, and who floods
+// hears nobody, so what is read in a slot does not change in it (specs/Senders.antt).
 ghost use mathlib.Core.Path.{_≡_};
 ghost use Prim.Native.Nat.{_<_};
 ghost use Rattle.capture.specs.Boards.{lengthBy, sentBy, decidedBy, restsBy, Written, ToldOne, ToldAll};

@@ -1,5 +1,5 @@
-// Stretches of a capture round in which nobody acts: nobody floods, no coin is due, no row is due, and all that slots
-// do is raise counts. A round may have four billion such slots, so they are taken at once.
+// RULES none. Stretches of a capture round in which nobody acts: nobody floods, no coin is due, no row is due, and all
+// that slots do is raise counts. A round may have four billion such slots, so they are taken at once.
 ghost use mathlib.Core.Path.{_≡_};
 ghost use mathlib.Core.Bool.{true, false};
 ghost use mathlib.Core.List.{List};

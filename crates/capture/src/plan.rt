@@ -1,5 +1,5 @@
-// The plan of a capture slot: which positions recover, and whom each target hears. It takes every word that the slot
-// takes, and needs states, last progress and links alone; what is merged by it comes after.
+// RULES 8.3 and 8.4. The plan of a capture slot: which positions recover, and whom each target hears. It takes every
+// word that the slot takes, and needs states, last progress and links alone; what is merged by it comes after.
 ghost use mathlib.Core.Path.{_≡_};
 ghost use Prim.Native.Nat.{_+_, _-_, _<_, _≤_};
 ghost use Rattle.loops.specs.Pick.{either};

@@ -1,5 +1,5 @@
-// The states of a capture round in the next slot, told from what the slot brought each position. Ported from ce.rs;
-// what comes from packets comes in as sets of positions.
+// RULES 8.7. The states of a capture round in the next slot, told from what the slot brought each position. Ported
+// from ce.rs; what comes from packets comes in as sets of positions.
 ghost use mathlib.Core.Path.{_≡_};
 ghost use Prim.Native.Nat.{ℕ};
 ghost use Rattle.loops.specs.Pick.{either};

@@ -1,5 +1,5 @@
--- A room's calls as a list, by document 01, demand 3's paragraph: what each hands back, the slots that it ticks, and every moment on the way.
--- Assumes nothing: these are definitions.
+-- A room's calls as a list, by RULES 11.8 and 11.4: what each hands back, the slots that it ticks, and every moment on
+-- the way. Assumes nothing: these are definitions.
 use Prim.Native.Nat.{ℕ, _+_}
 use mathlib.Core.List.{List, [], _∷_, _++_}
 use mathlib.Core.Path.{_≡_}
@@ -11,8 +11,8 @@ use Rattle.room.specs.Rooms.{proposeOf, captureOf, pipelineOf}
 use Rattle.room.specs.Slots.{captureSlots, pipelineSlots}
 use Rattle.readings.specs.Calls.{Reading}
 
--- A call and its arguments: words and cursor, the buffer of rows and how many of it are used; a reading is any of those of
--- readings specs/Calls, whose answers stand there. These are all the calls that a room has.
+-- A call and its arguments: words and cursor, the buffer of rows and how many of it are used; a reading is any of
+-- those of readings specs/Calls, whose answers stand there. These are all the calls that a room has.
 pub data Call : Type 0 where
   Propose : (position : ℕ) → Call
   CaptureRound : (words : List ℕ) (cursor : ℕ) (rows : List ℕ) (used : ℕ) → Call

@@ -1,5 +1,5 @@
--- The marked cases of document 01, "Cases", as one table over the rules that the contracts of the room and of the layers below cite.
--- Assumes nothing: these are statements, proved in one go in proofs/Cases.antt.
+-- The marked cases of RULES 11.12, 8.10 and 9.7, as one table over the rules that the contracts of the room and of the
+-- layers below cite. Assumes nothing: these are statements, proved in one go in proofs/Cases.antt.
 use Prim.Native.Nat.{ℕ, _+_, _*_, _≤_, _<_}
 use mathlib.Core.Bool.{Bool, true, false, _&&_}
 use mathlib.Core.List.{List, [], _∷_, map}
@@ -68,7 +68,8 @@ abbrev pub asking : RoomKind → Settings → ℕ → Asked
 asking kind s transactions =
     record { kind = kind; graph = rowsOf pair .graph; settings = s; transactions = transactions; term = 0; interval = lastSlot; bound = lastSlot }
 
--- a capture room of them with rounds of 20 slots, the proposal of position 0, and one round: no words, a buffer of one row
+-- a capture room of them with rounds of 20 slots, the proposal of position 0, and one round: no words, a buffer of one
+-- row
 abbrev pub captureRoom : Opening
 captureRoom = openOf (asking kinds.Capture (plain true 20) 1)
 
@@ -97,7 +98,8 @@ pub record LineOfTwo : Type 0 where
   pub counts : countsOfTwo (captured .room) ≡ 3 ∷ 3 ∷ 0 ∷ []
   pub outcome : outcomeOf 2 (captured .room .capture .held) ≡ outcome.Committed
 
--- a pipeline room of them with no transactions, whose round slots are not given, and one round: no words, a buffer of one row
+-- a pipeline room of them with no transactions, whose round slots are not given, and one round: no words, a buffer of
+-- one row
 abbrev pub pipelineRoom : Opening
 pipelineRoom = openOf (asking kinds.Pipeline (plain false 0) 0)
 
@@ -196,7 +198,8 @@ CaptureOfNoSlots =
     → r .conf .round .length ≡ 0 → r .network .slot ≤ lastSlot → used * 5 ≤ numbers
     → NoTick ws cursor used r (captureOf ws numbers used r cursor)
 
--- Every pipeline round of no slots, accepted or refused. (It is prepared and processed all the same, so it may draw words.)
+-- Every pipeline round of no slots, accepted or refused. (It is prepared and processed all the same, so it may draw
+-- words.)
 pub record PipelineOfNoSlots : Type 0 where
   pub ticks : (ws : List ℕ) (cursor : ℕ) (r : Room) → r .conf .round .length ≡ 0 → pipelineSlots ws cursor r ≡ []
   pub unmoved : (ws : List ℕ) (numbers used cursor : ℕ) (r : Room) → r .conf .round .length ≡ 0 → Unmoved r (pipelineOf ws numbers used r cursor .room)

@@ -1,4 +1,4 @@
--- Document 01, "Identical flood and pipeline round": sleepers get what the initiator holds, and covered is counted by
+-- RULES 10.4 and 10.10: sleepers get what the initiator holds, and covered is counted by
 -- bytes, whatever the calls. For that, what the positions of a pipeline room hold are packets that a text stands for.
 -- Assumes nothing: these are definitions and statements. They are proved in proofs/Covered.antt.
 use mathlib.Core.Bool.{Bool, true, false, _&&_}
@@ -85,8 +85,8 @@ pub record Covers (i : ℕ) (a b : Room) : Type 0 where
   pub sleepers : (v : ℕ) → v < sizeOf b → stateIn b v ≡ Sleep → bytesAt b v ≡ bytesAt b i
   pub covered : coveredIn b ≡ (coveredIn a + sameBytes b i) % 2 ^ 64
 
--- For every accepted opening, every list of calls, and every pipeline round that is accepted behind it: round r is that
--- of position r mod n.
+-- For every accepted opening, every list of calls, and every pipeline round that is accepted behind it: round r is
+-- that of position r mod n.
 abbrev pub CoveredByBytes : Type 0
 CoveredByBytes =
     (asked : Asked) → openOf asked .refusal ≡ 0

@@ -1,4 +1,5 @@
--- Demand 3: one statement over lists of a room's calls. Assumes nothing: it is proved in proofs/Demand.antt.
+-- RULES 11.9. Demand 3: one statement over lists of a room's calls. Assumes nothing: it is proved in
+-- proofs/Demand.antt.
 use mathlib.Core.Path.{_≡_}
 use mathlib.Core.List.{List, [], List·Memᴰ}
 use Prim.Native.Nat.{ℕ, _*_, _<_, _^_}
@@ -46,8 +47,8 @@ heldText r v = textIn (heldAt r v .packet) (heldAt r v .held)
 abbrev pub heldRead : Room → ℕ → CeRead
 heldRead r v = ceRead (heldText r v) (length (heldText r v))
 
--- Position v holds phase f for term t: its text is accepted by the reader of packets, and gives both. An empty text is not
--- accepted, so an empty position holds none; nor does any position of a pipeline room.
+-- Position v holds phase f for term t: its text is accepted by the reader of packets, and gives both. An empty text is
+-- not accepted, so an empty position holds none; nor does any position of a pipeline room.
 pub record HoldsPhase (r : Room) (v t : ℕ) (f : TwoPcPhase) : Type 0 where
   pub kind : r .conf .kind ≡ kinds.Capture
   pub position : v < sizeOf r
@@ -62,7 +63,8 @@ AllVoteYes r t = AllYes (noesOf (r .conf)) (sizeOf r) t
 abbrev pub SomeVoteNo : Room → ℕ → Type 0
 SomeVoteNo r t = SomeNo (noesOf (r .conf)) (sizeOf r) t
 
--- The demand's clauses: the room was opened as o, e slots have elapsed, a is an earlier moment and b is the present one. What is fixed is as it was opened.
+-- The demand's clauses: the room was opened as o, e slots have elapsed, a is an earlier moment and b is the present
+-- one. What is fixed is as it was opened.
 pub record Holds (o : Room) (e : ℕ) (a b : Room) : Type 0 where
   pub fixed : b .conf ≡ o .conf
   pub slot : b .network .slot ≡ e

@@ -1,4 +1,4 @@
--- Document 01, "Identical flood and pipeline round": how many rounds a pipeline room accepts. Assumes nothing: it is proved in proofs/Rounds.antt.
+-- RULES 10.11 and 11.11: how many rounds a pipeline room accepts. Assumes nothing: it is proved in proofs/Rounds.antt.
 use mathlib.Core.List.{List, [], _∷_}
 use Prim.Native.Nat.{ℕ, _+_, _≤_}
 use lib.Dec.{eqb}

@@ -1,4 +1,4 @@
--- What demand 3 says by texts, in two other ways: by what the room holds, and by what a reading hands out.
+-- RULES 11.9. What demand 3 says by texts, in two other ways: by what the room holds, and by what a reading hands out.
 -- Assumes nothing: these are statements. They are proved in proofs/Texts.antt.
 use mathlib.Core.Path.{_≡_}
 use mathlib.Core.List.{List, List·Memᴰ}
@@ -22,9 +22,9 @@ pub record HoldsValue (r : Room) (v t : ℕ) (f : TwoPcPhase) : Type 0 where
   pub term : heldAt r v .packet .term ≡ t
   pub phase : heldAt r v .packet .phase ≡ f
 
--- A position holds a phase for a term, by its text, exactly if the packet that it holds has both. The last two are of the
--- reading of a position's text: where the longest text has room, it answers with no refusal, and what it writes is the
--- text that demand 3 means.
+-- A position holds a phase for a term, by its text, exactly if the packet that it holds has both. The last two are of
+-- the reading of a position's text: where the longest text has room, it answers with no refusal, and what it writes is
+-- the text that demand 3 means.
 pub record SameTexts (r : Room) : Type 0 where
   pub value : (v t : ℕ) (f : TwoPcPhase) → HoldsPhase r v t f → HoldsValue r v t f
   pub text : (v t : ℕ) (f : TwoPcPhase) → HoldsValue r v t f → HoldsPhase r v t f

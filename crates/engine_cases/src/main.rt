@@ -1,14 +1,13 @@
-// Replays capture rounds and prints our answers; the file `stdout` holds the Rust's answers to the same questions. Both
-// files are made by `differential/run --sample capture | differential/engine_cases.py`. A line is numbers in decimal with
-// single blanks between them:
+// RULES none. Replays capture rounds and prints our answers; the file `stdout` holds the Rust's answers to the same
+// questions. Both files are made by `differential/run --sample capture | differential/engine_cases.py`. A line is
+// numbers in decimal with single blanks between them:
 //   1 n topology argument timeout loss abort seed interval first step count
 //       opens a room; losses and abort probabilities are told by their place in a table; of its words each is the one
 //       before it and step
 //   2 term initiator             a proposal after that term
 //   3 place number               one number of the state, for packets given by hand
-//   4 initiator slots numbers    a round, with room for that many numbers of rows
-// The answer to 4 is the refusal, the first six numbers of the state, recoveries, frames tried and heard, and a digest of
-// the whole state and of the rows.
+//   4 initiator slots numbers    a round, with room for that many numbers of rows The answer to 4 is the refusal, the
+// first six numbers of the state, recoveries, frames tried and heard, and a digest of the whole state and of the rows.
 ghost use Prim.Native.Nat.{_≤_};
 use engines_c::console;
 use engines_c::numbers;

@@ -1,4 +1,4 @@
--- Document 01, demand 3's sum: what a slot's tick does to the counts of all positions. Assumes nothing.
+-- RULES 11.9, the sum: what a slot's tick does to the counts of all positions. Assumes nothing.
 use Prim.Native.Nat.{ℕ, zero, suc, _+_, _-_, _≤_, _<_, _^_}
 use mathlib.Core.Path.{_≡_, refl, ap, _∙_}
 use mathlib.Core.List.{List, [], _∷_, _++_, map}

@@ -1,5 +1,5 @@
--- Document 01, "Words", and refusal 16: over any draws the cursor only rises, a lack of words stays noted, and as long as none is
--- noted every word drawn lies in the list. Assumes nothing.
+-- RULES 3.1, 3.5, and refusal 16: over any draws the cursor only rises, a lack of words stays noted, and as long as
+-- none is noted every word drawn lies in the list. Assumes nothing.
 use Prim.Native.Nat.{ℕ, zero, suc, _+_, _-_, _≤_, max}
 use mathlib.Core.Bool.{Bool, true, false}
 use mathlib.Core.List.{List}

@@ -1,4 +1,4 @@
--- Document 01, "Slots, counts, rows": a row counts every position once. Assumes nothing.
+-- RULES 7.3: a row counts every position once. Assumes nothing.
 use Prim.Native.Nat.{ℕ, zero, suc, _+_, _≤_, min}
 use mathlib.Core.Bool.{Bool, true, false, _&&_}
 use mathlib.Core.List.{List}

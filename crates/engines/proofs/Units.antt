@@ -1,4 +1,4 @@
--- A unit is the fraction that document 01 names, and a frame is lost if that fraction lies below the loss
+-- A unit is the fraction that RULES 3.2 names, and a frame is lost if that fraction lies below the loss
 -- (specs/Exact). Assumes nothing.
 use Prim.Native.Nat.{ℕ, _+_, _-_, _*_, _/_, _^_, _≤_, _<_, zero-le}
 use native.Mathlib.Nat.{mul-one, one-mul, zero-mul, mul-assoc, mul-comm, mul-left-comm, mul-right-comm, mul-pos}

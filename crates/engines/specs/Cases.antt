@@ -1,4 +1,4 @@
--- Worked cases, computed over the rules themselves. Assumes nothing.
+-- RULES 3.2, 7.3 and 7.4. Worked cases, computed over the rules themselves. Assumes nothing.
 use Prim.Native.Nat.{_^_, _-_}
 use mathlib.Core.Bool.{true, false}
 use mathlib.Core.List.{[], _∷_}
@@ -58,7 +58,8 @@ ratios = (refl, refl, refl)
 
 -- ---- rows
 
--- One of nine numbers' rows used and one due: refused; of ten: not. A used count at its highest is refused, also with no row due.
+-- One of nine numbers' rows used and one due: refused; of ten: not. A used count at its highest is refused, also with
+-- no row due.
 fitting :
     (rowsRefused 9 1 1 ≡ true)
     × (rowsRefused 10 1 1 ≡ false)

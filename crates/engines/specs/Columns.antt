@@ -1,5 +1,5 @@
--- Numbers of positions in a table: a column is 64 of them, one for each position, from its start on. No rule of 01 is
--- said here. Assumes nothing.
+-- Numbers of positions in a table: a column is 64 of them, one for each position, from its start on. RULES none: no
+-- rule is said here. Assumes nothing.
 use Prim.Native.Nat.{ℕ, _+_}
 use mathlib.Core.List.{List, [], _∷_}
 use lib.ListN.{set, getD}

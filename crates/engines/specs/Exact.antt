@@ -1,4 +1,4 @@
--- Document 01, "Words": a unit is exact, so that a draw compares the two numbers themselves and none that are near
+-- RULES 3.2: a unit is exact, so that a draw compares the two numbers themselves and none that are near
 -- them. Assumes nothing.
 use Prim.Native.Nat.{ℕ, _*_, _/_, _^_, _<_}
 use mathlib.Core.Bool.{Bool, true, false}
@@ -9,8 +9,8 @@ use lib.Ieee.{Float, fin, up, down}
 use Rattle.engines.specs.Words.{unitOf, lostOf}
 use Rattle.engines.specs.Settings.{lossAccepted}
 
--- x is the fraction a / c itself, with a minus sign if `minus` says so. A binary64 number is m * 2 ^ e, and 2 ^ e is the
--- fraction up e / down e; that m * up e / down e is a / c is said by the products across.
+-- x is the fraction a / c itself, with a minus sign if `minus` says so. A binary64 number is m * 2 ^ e, and 2 ^ e is
+-- the fraction up e / down e; that m * up e / down e is a / c is said by the products across.
 pub record Exactly (x : Float) (minus : Bool) (a c : ℕ) : Type 0 where
   pub m : ℕ
   pub e : ℤ

@@ -1,4 +1,5 @@
--- Loops over the marks of a set in rising order, one mark more, and a change of one place of a list. Assumes nothing.
+-- RULES none. Loops over the marks of a set in rising order, one mark more, and a change of one place of a list.
+-- Assumes nothing.
 use Prim.Native.Nat.{ℕ}
 use mathlib.Core.Bool.{_||_}
 use mathlib.Core.List.{List}

@@ -1,4 +1,4 @@
--- Document 01, "After the rounds": the two ratios. Assumes nothing.
+-- RULES 7.6: the two ratios. Assumes nothing.
 use Prim.Native.Nat.{ℕ, _+_, _%_, _^_}
 use lib.Dec.{eqb}
 use lib.IntN.{pos}

@@ -1,5 +1,5 @@
--- Document 01, "Slots, counts, rows", and refusals 15 to 17: what both kinds of room have and both kinds of round move, and the rules that both kinds of
--- round share. Assumes nothing.
+-- RULES 7.1, 7.3, 3.5, 11.3 and 11.6, and refusals 15 to 17 of RULES 15: what both kinds of room have and both kinds
+-- of round move, and the rules that both kinds of round share. Assumes nothing.
 use mathlib.Core.Bool.{Bool}
 use mathlib.Core.List.{List, []}
 use Prim.Native.Nat.{ℕ, _+_, _*_}

@@ -1,4 +1,4 @@
--- Document 01, "Slots, counts, rows": the counts of a position, and what a slot's tick does to them. Assumes nothing.
+-- RULES 7.1 and 7.2: the counts of a position, and what a slot's tick does to them. Assumes nothing.
 use Prim.Native.Nat.{ℕ, _+_, _%_, _^_, _<_}
 use mathlib.Core.Bool.{Bool, true, false}
 use mathlib.Core.List.{List, [], _∷_}

@@ -1,5 +1,5 @@
--- Document 01, "Slots, counts, rows", for a whole round of either kind: its rows, one behind the other. A kind of round is told by its state between two
--- slots: the network in it, whether the round is over, and what a slot does. Assumes nothing.
+-- RULES 7.3 and 7.4, for a whole round of either kind: its rows, one behind the other. A kind of round is told by its
+-- state between two slots: the network in it, whether the round is over, and what a slot does. Assumes nothing.
 use mathlib.Core.Bool.{Bool, false}
 use mathlib.Core.List.{List, _++_}
 use mathlib.Core.Path.{_≡_}
@@ -26,16 +26,17 @@ module _ {S : Type 0} (network : S → Network) (over : S → Bool) (slot : S �
 unfoldable pub placed : List ℕ → ℕ → List ℕ → List ℕ
 placed rows at l = sets rows at (take ((length rows - at) / rowCells * rowCells) l)
 
--- ---- no rules of 01: what the code owes that runs a round
+-- ---- no rules: what the code owes that runs a round
 
--- A step of a round with `left` slots to go, be it one slot or a stretch of them: less is left, the round comes to the same end, and its rows are that of
--- the slot begun and those that are still to come.
+-- A step of a round with `left` slots to go, be it one slot or a stretch of them: less is left, the round comes to the
+-- same end, and its rows are that of the slot begun and those that are still to come.
 pub record Stepped {S : Type 0} (network : S → Network) (over : S → Bool) (slot : S → S) (conf : RoundConf) (left : ℕ) (s : S) (rest : ℕ) (t : S) : Type 0 where
   pub less : rest < left
   pub run : runs over slot rest t ≡ runs over slot left s
   pub rows : rowsIn network over slot conf left s ≡ slotRow conf (network s) ++ rowsIn network over slot conf rest t
 
--- What a run without rows must find out: whether words run short and, if they do not, how the round ends and how many rows are due.
+-- What a run without rows must find out: whether words run short and, if they do not, how the round ends and how many
+-- rows are due.
 pub record Surveyed {S : Type 0} (network : S → Network) (over : S → Bool) (slot : S → S) (conf : RoundConf) (draw : S → Draw) (k : ℕ) (s t : S) (due : ℕ) : Type 0 where
   pub short : draw t .short ≡ draw (runs over slot k s) .short
   pub state : draw t .short ≡ false → t ≡ runs over slot k s

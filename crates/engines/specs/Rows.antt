@@ -1,4 +1,5 @@
--- Document 01, "Slots, counts, rows", and refusal 17: what a row says, when it is due, and where it is written. Assumes nothing.
+-- RULES 7.3 and 7.4, and refusal 17 of RULES 15: what a row says, when it is due, and where it is written. Assumes
+-- nothing.
 use Prim.Native.Nat.{ℕ, _+_, _-_, _*_, _/_, _%_, _^_}
 use mathlib.Core.Bool.{Bool, _||_}
 use mathlib.Core.List.{List, [], _∷_}
@@ -46,6 +47,7 @@ cells r = r .slot ∷ r .progress ∷ r .listening ∷ r .flooding ∷ r .sleepi
 unfoldable pub putRow : List ℕ → Row → List ℕ
 putRow part r = either (ltb (length part) 5) part (sets part 0 (cells r))
 
--- Refusal 17: more rows used than the buffer has numbers for, or too few numbers behind them for the rows that are due.
+-- Refusal 17: more rows used than the buffer has numbers for, or too few numbers behind them for the rows that are
+-- due.
 unfoldable pub rowsRefused : ℕ → ℕ → ℕ → Bool
 rowsRefused numbers used due = ltb numbers (used * 5) || ltb ((numbers - used * 5) / 5) due

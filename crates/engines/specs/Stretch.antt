@@ -1,5 +1,5 @@
--- Document 01, "Slots, counts, rows" and "Capture round", over several slots at once: a stretch of slots in which only counts change. No rule of 01 is
--- said here; what is said is when slots may be taken together, and what they come to. Assumes nothing.
+-- RULES none (see sections 7.1 and 8.2), over several slots at once: a stretch of slots in which only counts change.
+-- No rule is said here; what is said is when slots may be taken together, and what they come to. Assumes nothing.
 use Prim.Native.Nat.{ℕ, _+_, _-_, _%_, _^_, _<_}
 use mathlib.Core.List.{List}
 use mathlib.Core.Path.{_≡_}
@@ -31,7 +31,8 @@ flooded k v =
       «slots_sleep» = v .«slots_sleep»;
     }
 
--- What k ticks do to a position whose state stays: the count of its state is higher by k, and a flooder has k floods less to do.
+-- What k ticks do to a position whose state stays: the count of its state is higher by k, and a flooder has k floods
+-- less to do.
 abbrev pub passedIn : NodeState → ℕ → Node → Node
 passedIn Listen k v = counted v (add64 (v .«slots_listen») k) (v .«slots_flood») (v .«slots_sleep»)
 passedIn Flood k v = flooded k v

@@ -1,4 +1,4 @@
--- Document 01, "Words": what a draw takes from the lent list, and what one word gives. Assumes nothing.
+-- RULES 3.1 and 3.2: what a draw takes from the lent list, and what one word gives. Assumes nothing.
 use Prim.Native.Nat.{ℕ, _+_, _-_, _/_, _%_, _^_}
 use mathlib.Core.Bool.{Bool, true}
 use mathlib.Core.List.{List}
@@ -12,8 +12,8 @@ use Rattle.engines.specs.Clamp.{atMost64}
 use Rattle.engines.specs.declared.words.Draw.{Draw}
 use Rattle.engines.specs.declared.words.Drawn.{Drawn}
 
--- A draw takes the word at the cursor and moves the cursor by one. Where there is none the word reads as 0, the cursor stays,
--- and `short` is set for good: refusal 16 asks for it at the end of a run.
+-- A draw takes the word at the cursor and moves the cursor by one. Where there is none the word reads as 0, the cursor
+-- stays, and `short` is set for good: refusal 16 asks for it at the end of a run.
 unfoldable pub nextOf : List ℕ → Draw → Drawn
 nextOf ws d =
     either (ltb (d .at) (length ws))
@@ -42,7 +42,7 @@ pub record Order : Type 0 where
   pub ids : List ℕ
   pub draw : Draw
 
--- Document 01, "Capture round", the shuffle: a pick from 0 to i, and the numbers at i and at the pick change places.
+-- RULES 3.3, the shuffle: a pick from 0 to i, and the numbers at i and at the pick change places.
 abbrev pub swapped : ℕ → ℕ → List ℕ → List ℕ
 swapped i j l = set (set l i (getD l j 0)) j (getD l i 0)
 

@@ -1,4 +1,4 @@
-// Lists here have 64 places, so what is asked of more is done for 64: no call has to be refused for it.
+// RULES 16. Lists here have 64 places, so what is asked of more is done for 64: no call has to be refused for it.
 ghost use mathlib.Core.Path.{_≡_};
 ghost use Prim.Native.Nat.{min};
 ghost use Rattle.engines.specs.Clamp.{atMost64};

@@ -1,5 +1,5 @@
-// Numbers of positions in a lent table: a column has a place for each position, from its start on. A place behind the
-// table's end is none, and nothing is written there.
+// RULES none. Numbers of positions in a lent table: a column has a place for each position, from its start on. A place
+// behind the table's end is none, and nothing is written there.
 ghost use mathlib.Core.Path.{_≡_};
 ghost use Rattle.loops.specs.Wrap.{add64};
 ghost use Rattle.engines.specs.Columns.{cellBy, raisedBy, storedAs};

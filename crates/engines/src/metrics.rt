@@ -1,4 +1,4 @@
-// Ported from metrics.rs: what a room counts beside its positions' counts, and the two ratios.
+// RULES 7.6. Ported from metrics.rs: what a room counts beside its positions' counts, and the two ratios.
 ghost use mathlib.Core.Path.{_≡_};
 ghost use Rattle.engines.specs.Metrics.{noMetrics, ratioOf, linkPdr, floodCoverage, withFrames};
 

@@ -1,4 +1,5 @@
-// Ported from node.rs: a position's state, its counts, and one slot's tick. The payload is held beside the node.
+// RULES 7.1 and 7.2. Ported from node.rs: a position's state, its counts, and one slot's tick. The payload is held
+// beside the node.
 ghost use mathlib.Core.Path.{_≡_};
 ghost use mathlib.Core.Bool.{_||_, _&&_};
 ghost use Prim.Native.Nat.{ℕ};

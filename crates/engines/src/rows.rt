@@ -1,4 +1,5 @@
-// Rows: at every row slot five numbers on the whole network, written one behind the other into a lent buffer.
+// RULES 7.3 and 7.4. Rows: at every row slot five numbers on the whole network, written one behind the other into a
+// lent buffer.
 ghost use mathlib.Core.Path.{_≡_};
 ghost use Prim.Native.Nat.{_-_, max};
 ghost use lib.Dec.{ltb};

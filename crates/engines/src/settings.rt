@@ -1,9 +1,9 @@
-// What is fixed when a room is opened and both rounds go by.
+// RULES 11.2 and 3.4. What is fixed when a room is opened and both rounds go by.
 ghost use mathlib.Core.Path.{_≡_};
 ghost use Rattle.engines.specs.Settings.{lossAccepted, isLossy};
 
-// A capture round reads the listen timeout, a flood the repeats. The round's slots may be left open for a flood, which then
-// reckons them from the diameter.
+// A capture round reads the listen timeout, a flood the repeats. The round's slots may be left open for a flood, which
+// then reckons them from the diameter.
 pub struct Settings {
     pub loss_rate: f64,
     pub abort_probability: f64,

@@ -1,4 +1,4 @@
-// Several slots at once, in which no position changes its state: only counts rise.
+// RULES none. Several slots at once, in which no position changes its state: only counts rise.
 ghost use mathlib.Core.Path.{_≡_};
 ghost use Prim.Native.Nat.{_-_};
 ghost use Rattle.engines.specs.Stretch.{passed, passedAll};

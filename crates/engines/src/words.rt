@@ -1,4 +1,4 @@
-// Random draws from a lent list of words: a cursor by value, and what one word gives.
+// RULES 3.1, 3.2 and 3.3. Random draws from a lent list of words: a cursor by value, and what one word gives.
 ghost use mathlib.Core.Path.{_≡_};
 ghost use Prim.Native.Nat.{_<_, _+_, _%_};
 ghost use Rattle.engines.specs.Words.{unitOf, nextOf, coinOf, lostOf, pickOf, swapStep, shuffled};
@@ -15,8 +15,8 @@ pub struct Drawn {
     pub draw: Draw,
 }
 
-// The next word and the cursor behind it. Past the end the word is 0, the cursor stays, and says so from then on: so every
-// draw has an answer, and no loop has to be left for want of a word.
+// The next word and the cursor behind it. Past the end the word is 0, the cursor stays, and says so from then on: so
+// every draw has an answer, and no loop has to be left for want of a word.
 pub fn next(words: &[u64], d: Draw) -> Drawn
     ensures { λ r. ⌜ r ≡ nextOf (now (words .entry)) d ⌝ }
 {

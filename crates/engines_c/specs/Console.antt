@@ -1,4 +1,4 @@
--- Document 01, "Where each language form belongs", the boundary for differential runs: a capture round on a lent
+-- RULES 17, the boundary for differential runs: a capture round on a lent
 -- list of numbers. Assumes nothing.
 use mathlib.Core.Bool.{Bool, true, false, not}
 use mathlib.Core.List.{List, [], _∷_}
@@ -93,7 +93,7 @@ pub record Answered (xs ws lent : List ℕ) (conf : RoundConf) (initiator r : �
   pub state : after ≡ unless r (putState (toldOf xs ws (length lent) conf initiator) xs) xs
   pub rows : left ≡ unless r (rowsLeft xs ws lent conf initiator) lent
 
--- ---- no rules of 01: what follows from these
+-- ---- no rules: what follows from these
 
 -- A refused call leaves every number and every row as it was.
 abbrev pub RefusedKeeps : Type 0

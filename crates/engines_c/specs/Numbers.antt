@@ -1,4 +1,4 @@
--- Document 01, "Where each language form belongs", entries on slices and numbers: what a lent list of numbers says of
+-- RULES 17, entries on slices and numbers: what a lent list of numbers says of
 -- nodes, counts and a network. Assumes nothing.
 use mathlib.Core.Bool.{Bool, true, false}
 use mathlib.Core.List.{List, [], _∷_}

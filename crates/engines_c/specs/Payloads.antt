@@ -1,4 +1,4 @@
--- Document 01, "Where each language form belongs", entries on slices and numbers: what a lent list of numbers says of
+-- RULES 17, entries on slices and numbers: what a lent list of numbers says of
 -- what positions hold. Assumes nothing.
 use mathlib.Core.Bool.{Bool, _&&_}
 use mathlib.Core.List.{List, [], _∷_}
@@ -48,8 +48,8 @@ unfoldable pub payloadAt : List ℕ → ℕ → ℕ → Payload
 payloadAt xs at k = record { held = heldNumbered (cell xs at k); packet = packetAt xs at k }
 
 -- Refusal 9 is for numbers that stand for no payload. Whatever is held, what it is and the phase must be one of three,
--- the lengths within the limits, and the data bytes. Marks behind the bitmap's length say nothing to a merge, and are let
--- be.
+-- the lengths within the limits, and the data bytes. Marks behind the bitmap's length say nothing to a merge, and are
+-- let be.
 unfoldable pub bytesFit : List ℕ → ℕ → ℕ → Bool
 bytesFit xs at k = allOf dataBytes (λ i. leb (cell xs at (k + i)) 255)
 

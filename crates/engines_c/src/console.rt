@@ -1,5 +1,5 @@
-// The entry for the differential runs: a capture round on a state that is a lent list of numbers. The answer is the
-// refusal, 0 for none; a refused call writes nothing.
+// RULES 17. The entry for the differential runs: a capture round on a state that is a lent list of numbers. The answer
+// is the refusal, 0 for none; a refused call writes nothing.
 ghost use mathlib.Core.Path.{_≡_};
 ghost use Rattle.engines_c.specs.Console.{askedOf, linksOf, confOf, stateAt, counters, putState, Answered};
 use super::numbers;
@@ -122,8 +122,8 @@ fn put_state(xs: &mut [u64], a: CeAnswer)
 }
 
 // One round of at most `slots` slots. The state: slot, next row slot, bytes sent, rows used, cursor, whether the goal
-// was met; at 8 the counts of the room, at 16 the nodes, at 528 what positions hold. Refused by 2, 3, 4, 6, 8 and 9, and
-// by 15, 16 and 17 of the round, the lowest first.
+// was met; at 8 the counts of the room, at 16 the nodes, at 528 what positions hold. Refused by 2, 3, 4, 6, 8 and 9,
+// and by 15, 16 and 17 of the round, the lowest first.
 #[no_mangle]
 pub extern "C" fn ce_round(
     state: &mut [u64],

@@ -1,5 +1,5 @@
-// State as a lent list of 64-bit numbers, for entries that can be lent numbers and nothing else. A place past the end
-// reads as 0, and nothing is put there, so that no call has to be refused for the length of its list.
+// RULES 17. State as a lent list of 64-bit numbers, for entries that can be lent numbers and nothing else. A place
+// past the end reads as 0, and nothing is put there, so that no call has to be refused for the length of its list.
 ghost use mathlib.Core.Path.{_≡_};
 ghost use Prim.Native.Nat.{_+_, _≤_};
 ghost use lib.ListN.{getD, set};

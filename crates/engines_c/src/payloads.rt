@@ -1,5 +1,6 @@
-// What positions hold as a lent list of numbers, 38 for each: what it is (0 nothing, 1 a text that is no packet, 2 a
-// packet), the packet's term and phase, the length of its data and of its bitmap, the bitmap's marks, and 32 bytes of data.
+// RULES 17. What positions hold as a lent list of numbers, 38 for each: what it is (0 nothing, 1 a text that is no
+// packet, 2 a packet), the packet's term and phase, the length of its data and of its bitmap, the bitmap's marks, and
+// 32 bytes of data.
 ghost use mathlib.Core.Path.{_≡_};
 ghost use Prim.Native.Nat.{_+_, _≤_};
 ghost use Rattle.packets.specs.Packets.{limits};

@@ -1,5 +1,5 @@
--- Document 01, demand 3's sum over a flood: a position's turn touches none of its counts. (Its tick and the start of a round are engines' own.)
--- Assumes nothing.
+-- RULES 11.9, the sum over a flood: a position's turn touches none of its counts. (Its tick and the start of a round
+-- are engines' own.) Assumes nothing.
 use Prim.Native.Nat.{ℕ}
 use mathlib.Core.Bool.{Bool}
 use mathlib.Core.Path.{refl}

@@ -1,4 +1,4 @@
--- Document 01, "Identical flood and pipeline round", the flood: one packet, sent on by whoever hears it. A link from
+-- RULES 9, the flood: one packet, sent on by whoever hears it. A link from
 -- i to j says that j hears i: row i of the links has mark j. Assumes nothing.
 use Prim.Native.Nat.{ℕ, _+_, _-_, _*_, _/_, _%_, _^_, max}
 use mathlib.Core.Bool.{Bool, true, false, _&&_}

@@ -1,5 +1,5 @@
--- Document 01, "Identical flood and pipeline round", the flood over several slots at once: a stretch of slots in
--- which nothing but counts changes. No rule of 01 is said here; what is said is when slots may be taken together, and
+-- RULES none (see section 9.3), the flood over several slots at once: a stretch of slots in
+-- which nothing but counts changes. No rule is said here; what is said is when slots may be taken together, and
 -- what they come to. Assumes nothing.
 use Prim.Native.Nat.{ℕ, _+_, _≤_, _<_}
 use mathlib.Core.Bool.{true, false}

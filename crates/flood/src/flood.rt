@@ -1,5 +1,5 @@
-// Ported from phy/ci.rs: the identical flood, slot by slot. What is flooded is the same for everybody, so only its
-// length counts here.
+// RULES 9. Ported from phy/ci.rs: the identical flood, slot by slot. What is flooded is the same for everybody, so
+// only its length counts here.
 ghost use mathlib.Core.Path.{_≡_};
 ghost use Prim.Native.Nat.{_<_};
 ghost use Rattle.engines.specs.Marked.{overMarks};

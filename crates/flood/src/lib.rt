@@ -1,3 +1,3 @@
-// The identical flood, ported from phy/ci.rs.
+// RULES 9. The identical flood, ported from phy/ci.rs.
 pub mod flood;
 mod quiet;

@@ -1,5 +1,5 @@
-// Several slots of a flood at once, in which nothing but counts changes: all flooders have floods left, and nobody
-// who listens hears any of them. A round may have four billion such slots.
+// RULES none. Several slots of a flood at once, in which nothing but counts changes: all flooders have floods left,
+// and nobody who listens hears any of them. A round may have four billion such slots.
 ghost use mathlib.Core.Path.{_≡_};
 ghost use mathlib.Core.Bool.{false};
 ghost use Prim.Native.Nat.{_<_};

@@ -1,4 +1,4 @@
--- What a frame line and a listing line never exceed. Assumes nothing: these are definitions.
+-- RULES 16 and 13.2. What a frame line and a listing line never exceed. Assumes nothing: these are definitions.
 use Prim.Native.Nat.{ℕ, _+_}
 
 -- the digits of a frame

@@ -1,5 +1,6 @@
--- A frame plays on the parts of a room. What it leaves of them is what a list of the room's own calls leaves of the room as it was opened, so that whatever holds of
--- every list of calls holds of a frame's room. Assumes nothing: it is proved in proofs/Called.antt.
+-- RULES 11.11. A frame plays on the parts of a room. What it leaves of them is what a list of the room's own calls
+-- leaves of the room as it was opened, so that whatever holds of every list of calls holds of a frame's room. Assumes
+-- nothing: it is proved in proofs/Called.antt.
 use mathlib.Core.List.{List}
 use mathlib.Core.Path.{_≡_}
 use Prim.Native.Nat.{ℕ}

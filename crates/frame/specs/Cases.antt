@@ -1,4 +1,4 @@
--- 01's example of a frame line and its listing line, computed over the rules. Assumes nothing.
+-- RULES 13.5 and 8.10: the example of a frame line and its listing line, computed over the rules. Assumes nothing.
 use Prim.Native.Nat.{ℕ}
 use mathlib.Core.List.{List, [], _∷_}
 use mathlib.Core.Path.{_≡_, refl}

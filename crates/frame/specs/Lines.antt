@@ -1,4 +1,5 @@
--- Document 01, "After the rounds", the frame line, and refusal 1. Places are counted in digits; a byte has two. Assumes nothing.
+-- RULES 13.1 and 13.2, the frame line, and refusal 1 of RULES 15. Places are counted in digits; a byte has two.
+-- Assumes nothing.
 use mathlib.Core.Bool.{Bool, _&&_, _||_}
 use mathlib.Core.List.{List}
 use Prim.Native.Nat.{ℕ, zero, suc, _+_, _-_, _*_, _/_, _%_}
@@ -67,8 +68,8 @@ wordsOf s = tabulate (wordCount s) (λ k. numberAt s (76 + 2 * nameLength s + 16
 abbrev pub noFrame : Frame
 noFrame = record { refusal = badLine; kind = 0; positions = 0; topology = 0; argument = 0; transactions = 0; span = 0; slots = 0; loss = 0; abort = 0; seed = 0; name = 0; words = 0 }
 
--- The fields in their order: kind, positions, topology, argument, transactions, a byte each; repeats or listen timeout, and round
--- slots, 4 bytes each; loss, abort probability and seed, 8 bytes each; then the name's length.
+-- The fields in their order: kind, positions, topology, argument, transactions, a byte each; repeats or listen
+-- timeout, and round slots, 4 bytes each; loss, abort probability and seed, 8 bytes each; then the name's length.
 unfoldable pub frameOf : List ℕ → Frame
 frameOf s =
     either (isFrame s)

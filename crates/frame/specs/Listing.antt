@@ -1,4 +1,4 @@
--- Document 01, "After the rounds": the listing line of a frame line, without its line end. Assumes nothing: these are definitions.
+-- RULES 14.1 and 13.7: the listing line of a frame line, without its line end. Assumes nothing: these are definitions.
 use mathlib.Core.Bool.{Bool, _&&_}
 use mathlib.Core.List.{List, [], _∷_, _++_}
 use Prim.Native.Nat.{ℕ, _+_, _*_}

@@ -1,5 +1,5 @@
--- Document 01, "After the rounds", and refusals 2 to 7: the room that a frame asks for, the calls that it makes, and what comes of them.
--- Assumes nothing: these are definitions.
+-- RULES 13.3, 13.4 and 13.7, and refusals 2 to 7 of RULES 15: the room that a frame asks for, the calls that it makes,
+-- and what comes of them. Assumes nothing: these are definitions.
 use Prim.Native.Nat.{ℕ, _+_, _%_}
 use mathlib.Core.Bool.{Bool, not, _||_, _&&_}
 use mathlib.Core.List.{List}
@@ -34,8 +34,8 @@ use Rattle.frame.specs.declared.play.Outcome.{Outcome}
 abbrev pub kindOf : ℕ → RoomKind
 kindOf k = either (eqb k 1) kinds.Pipeline kinds.Capture
 
--- Loss and abort probability are given by their bits. Each kind of room reads its own of repeats and listen timeout, and only a pipeline
--- room asks whether its slots are given.
+-- Loss and abort probability are given by their bits. Each kind of room reads its own of repeats and listen timeout,
+-- and only a pipeline room asks whether its slots are given.
 unfoldable pub settingsOf : Frame → Settings
 settingsOf f =
     record {
@@ -61,7 +61,8 @@ askedOf f g =
       bound = lastSlot;
     }
 
--- ---- the calls of a capture room, on the parts that they move: each gets what the one before it handed back, and the lent buffer holds one row
+-- ---- the calls of a capture room, on the parts that they move: each gets what the one before it handed back, and the
+-- lent buffer holds one row
 
 -- the call, unless one before it was refused
 abbrev pub unlessRefused : (Captured → Captured) → Captured → Captured
@@ -98,8 +99,8 @@ isDone s = not (eqb (s .refusal) 0) || s .part .stop
 abbrev pub newRan : PipelineAnswer
 newRan = record { refusal = 0; cursor = 0; used = 0; network = newNetwork; part = newPart }
 
--- A pipeline room runs until it has stopped: the round of number T + 1001 stops it if none before it does, so that T + 1002 rounds are always
--- enough (Stopping.antt).
+-- A pipeline room runs until it has stopped: the round of number T + 1001 stops it if none before it does, so that T +
+-- 1002 rounds are always enough (Stopping.antt).
 unfoldable pub playPipeline : ℕ → List ℕ → RoomConf → PipelineAnswer
 playPipeline t ws conf = runs isDone (pipelineTurn ws conf) (t + 1002) newRan
 

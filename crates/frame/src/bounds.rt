@@ -1,4 +1,5 @@
-// What a frame line and a listing line never exceed, and what one who lists lines needs to hold of them.
+// RULES 16 and 13.2. What a frame line and a listing line never exceed, and what one who lists lines needs to hold of
+// them.
 
 // The digits of a frame. A line that has more is refused.
 pub const DIGITS: usize = 60000;

@@ -1,4 +1,4 @@
-// A frame line's digits and fields: what refusal 1 is about.
+// RULES 13.1 and 13.2. A frame line's digits and fields: what refusal 1 is about.
 ghost use mathlib.Core.Bool.{true};
 ghost use mathlib.Core.Path.{_≡_};
 ghost use Prim.Native.Nat.{_+_, _^_, _<_, _≤_};

@@ -1,4 +1,4 @@
-// A frame line in, its listing line out.
+// RULES 14.1. A frame line in, its listing line out.
 ghost use mathlib.Core.Bool.{true};
 ghost use mathlib.Core.Path.{_≡_};
 ghost use mathlib.Core.List.{[], _∷_, _++_};

@@ -1,4 +1,4 @@
-// The room that a frame asks for, and the calls that it makes.
+// RULES 13.3 and 13.4. The room that a frame asks for, and the calls that it makes.
 ghost use mathlib.Core.Path.{_≡_};
 ghost use mathlib.Core.Bool.{not, _||_};
 ghost use lib.Dec.{eqb};
@@ -41,7 +41,8 @@ fn is_nan(bits: u64) -> bool
     bits % 4503599627370496 != 0
 }
 
-// The value of a pattern of bits. Every NaN is one value, which only arithmetic makes: the language makes none of bits.
+// The value of a pattern of bits. Every NaN is one value, which only arithmetic makes: the language makes none of
+// bits.
 fn float_of(bits: u64) -> f64
     ensures { λ r. ⌜ r ≡ ofBits binary64 bits ⌝ }
 {

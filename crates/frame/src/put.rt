@@ -1,4 +1,5 @@
-// The writers of a listing line's parts. Each is called where its text fits, and leaves every other byte as it was.
+// RULES 14.1. The writers of a listing line's parts. Each is called where its text fits, and leaves every other byte
+// as it was.
 ghost use mathlib.Core.List.{[], _∷_};
 ghost use Prim.Native.Nat.{_<_};
 ghost use lib.ListN.{length};

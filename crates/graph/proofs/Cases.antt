@@ -1,4 +1,4 @@
--- The rules computed: some of the Rust's answers, and what 01 says of small rings. Assumes nothing.
+-- The rules computed: some of the Rust's answers, and what RULES 2.2 says of small rings. Assumes nothing.
 use mathlib.Core.Path.{_≡_, refl}
 use mathlib.Core.Bool.{Bool, true, false, not, _&&_, _||_}
 use mathlib.Core.List.{[], _∷_}
@@ -50,7 +50,8 @@ pub small-rings : (graphBy 1 (linkOf Ring 1) ≡ graphBy 1 (linkOf Line 1)) × (
 unfolding graphBy filled tabulate marks linkOf aheadOf nextRule ringRule
 small-rings = (refl, refl)
 
--- diameters of a mesh of 2, a line of 3, a ring of 4, a grid of two rows of three, a tree of 4 with one child each, and 3 without links
+-- diameters of a mesh of 2, a line of 3, a ring of 4, a grid of two rows of three, a tree of 4 with one child each,
+-- and 3 without links
 pub diameters : (diameterOf (graphBy 2 (linkOf FullMesh 2)) ≡ 1) × (diameterOf (graphBy 3 (linkOf Line 3)) ≡ 2) × (diameterOf (graphBy 4 (linkOf Ring 4)) ≡ 2) × (diameterOf (graphBy 6 (linkOf (Grid 3) 6)) ≡ 3) × (diameterOf (graphBy 4 (linkOf (Tree 1) 4)) ≡ 3) × (diameterOf (graphBy 3 (linkOf (Tree 0) 3)) ≡ 0)
 unfolding diameterOf graphBy filled tabulate marks anyOf linkOf aheadOf meshRule nextRule ringRule gridRule treeRule
 diameters = (refl, refl, refl, refl, refl, refl)

@@ -1,4 +1,4 @@
--- How a call for C answers: a refusal number, and what was lent. Assumes nothing.
+-- RULES 17. How a call for C answers: a refusal number, and what was lent. Assumes nothing.
 use mathlib.Core.Bool.{Bool, true, false}
 use Prim.Native.Nat.{ℕ}
 use lib.Dec.{eqb, leb}

@@ -1,5 +1,5 @@
--- Document 01, "Links", and refusals 2, 3 and 8: what a graph of links is, and which links each builder makes.
--- A link from i to j says that j hears i. Assumes nothing.
+-- RULES 2.1, 2.2 and 2.4, and refusals 2, 3 and 8 of RULES 15: what a graph of links is, and which links each builder
+-- makes. A link from i to j says that j hears i. Assumes nothing.
 use mathlib.Core.Bool.{Bool, false, not, _||_, _&&_}
 use mathlib.Core.List.{List}
 use Prim.Native.Nat.{ℕ, _+_, _*_, _/_, _%_}
@@ -84,8 +84,9 @@ gridOf n rows =
     (either (divides rows n) (builtOf n (linkOf (Grid (n / rows)) n)) (refused badLinks))
     (refused badPositions)
 
--- 01's numbers of the topologies, as a frame gives them: 1 mesh, 2 line, 3 ring, each with argument 0; 4 grid, by its rows; 5 tree,
--- by its branching. Refusal 3: any other number, or a wrong argument; refusal 2 comes first.
+-- The numbers of the topologies (RULES 2.2), as a frame gives them: 1 mesh, 2 line, 3 ring, each with argument 0; 4
+-- grid, by its rows; 5 tree, by its branching. Refusal 3: any other number, or a wrong argument; refusal 2 comes
+-- first.
 abbrev pub plainOf : Topology → ℕ → ℕ → Built
 plainOf t n argument = either (eqb argument 0) (builtOf n (linkOf t n)) (refused badLinks)
 

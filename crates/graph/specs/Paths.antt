@@ -1,4 +1,4 @@
--- Document 01, "Links": the diameter, said by paths, and the same as a number that computes. Assumes nothing.
+-- RULES 2.3: the diameter, said by paths, and the same as a number that computes. Assumes nothing.
 use mathlib.Core.Bool.{true, _||_, _&&_}
 use mathlib.Core.Path.{_≡_}
 use Prim.Native.Nat.{ℕ, zero, suc, _≤_, _<_, max}
@@ -22,8 +22,8 @@ pub record Shortest (g : NetworkGraph) (i j k : ℕ) : Type 0 where
   pub path : Path g i j k
   pub least : (l : ℕ) → Path g i j l → k ≤ l
 
--- The longest of the shortest paths over all ordered pairs that a path joins. A position reaches itself by no link, so where
--- no two others are joined it is 0.
+-- The longest of the shortest paths over all ordered pairs that a path joins. A position reaches itself by no link, so
+-- where no two others are joined it is 0.
 pub record Longest (g : NetworkGraph) (d : ℕ) : Type 0 where
   pub bound : (i j k : ℕ) → Shortest g i j k → k ≤ d
   pub met : (i : ℕ) × (j : ℕ) × Shortest g i j d

@@ -1,4 +1,4 @@
--- What a wave holds that goes out from one position, a link a step. Assumes nothing.
+-- RULES 2.3. What a wave holds that goes out from one position, a link a step. Assumes nothing.
 use mathlib.Core.Bool.{not, _&&_}
 use mathlib.Core.List.{List}
 use mathlib.Core.Path.{_≡_}
@@ -18,7 +18,8 @@ pub record Stepped (adj : List ℕ) (w : Wave) (k : ℕ) (r : Wave) : Type 0 whe
   pub links : r .links ≡ either (eqb (r .front) 0) (w .links) (k + 1)
   pub small : r .front < 2 ^ 64
 
--- After k steps: unseen is what k links do not reach, and the last arrival was at the farthest position within k links.
+-- After k steps: unseen is what k links do not reach, and the last arrival was at the farthest position within k
+-- links.
 pub record Swept (g : NetworkGraph) (i k : ℕ) (w : Wave) : Type 0 where
   pub unseen : (j : ℕ) → has (w .unseen) j ≡ (ltb j (g .n) && not (has (reached g i k) j))
   pub links : w .links ≡ farthest g i k

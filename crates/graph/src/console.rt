@@ -1,5 +1,5 @@
 // The entries for C and for the differential runs. A graph goes over as its rows, one number for each position.
-// The answer is 01's refusal number, 0 for none; a refused call writes nothing.
+// The answer is the refusal's number (RULES 15), 0 for none; a refused call writes nothing.
 ghost use mathlib.Core.Path.{_≡_};
 ghost use Prim.Native.Nat.{_≤_};
 ghost use lib.ListN.{length};
@@ -23,7 +23,7 @@ fn put_all(out: &mut [u64], values: [u64; 64])
     }
 }
 
-// The rows of a topology with 01's number: 64 of them, empty behind the positions. 2, 3; 10 if fewer fit.
+// The rows of a topology with its number in RULES 2.2: 64 of them, empty behind the positions. 2, 3; 10 if fewer fit.
 #[no_mangle]
 pub extern "C" fn graph_build(topology: u64, n: usize, argument: usize, rows: &mut [u64]) -> u64
     ensures { λ r. ⌜ r ≡ first (topologyOf topology n argument .refusal) (room64 (length (now (rows .entry)))) ⌝ }
@@ -43,7 +43,8 @@ pub extern "C" fn graph_build(topology: u64, n: usize, argument: usize, rows: &m
     0
 }
 
-// Who hears i, in rising order, with zeros behind them up to 64, and how many they are. 2, 3, 8; 10 if fewer than 64 fit.
+// Who hears i, in rising order, with zeros behind them up to 64, and how many they are. 2, 3, 8; 10 if fewer than 64
+// fit.
 #[no_mangle]
 pub extern "C" fn graph_neighbors(rows: &[u64], i: usize, out: &mut [u64], count: &mut usize) -> u64
     ensures { λ r. ⌜ r ≡ first (rowsOf (now (rows .entry)) .refusal) (first (neighborsOf (rowsOf (now (rows .entry)) .graph) i .refusal) (room64 (length (now (out .entry))))) ⌝ }

@@ -1,6 +1,6 @@
 // Ported from network.rs: who hears whom. A link from i to j says that j hears i. It may have no counterpart,
 // and a position may hear itself.
-// Every call answers with 01's refusal number beside its value (0: none); a refused call's value is empty.
+// Every call answers with the refusal's number (RULES 15) beside its value (0: none); a refused call's value is empty.
 ghost use mathlib.Core.Path.{_≡_};
 ghost use mathlib.Core.Bool.{_||_, _&&_};
 ghost use Prim.Native.Nat.{ℕ, _+_, _/_, _≤_, _<_, max};
@@ -118,7 +118,8 @@ fn grid_ahead(cols: usize, i: usize, j: usize) -> bool
     same_row(cols, i, j)
 }
 
-// j is a child of i in a tree in which each has up to b children. The quotient stands for the product, which could wrap.
+// j is a child of i in a tree in which each has up to b children. The quotient stands for the product, which could
+// wrap.
 fn tree_ahead(b: usize, i: usize, j: usize) -> bool
     ensures { λ r. ⌜ r ≡ treeRule b i j ⌝ }
 {
@@ -323,8 +324,8 @@ fn list_marks(m: u64) -> NeighborList
     l
 }
 
-// A wave that goes out from one position, a link a step: where it arrived last, where it has not been, and the last step at
-// which it arrived somewhere.
+// A wave that goes out from one position, a link a step: where it arrived last, where it has not been, and the last
+// step at which it arrived somewhere.
 struct Wave {
     front: u64,
     unseen: u64,
@@ -474,7 +475,7 @@ impl NetworkGraph {
         build(Topology::Tree(branching_factor), n)
     }
 
-    // The topology with 01's number, for n positions.
+    // The topology with this number (RULES 2.2), for n positions.
     pub fn from_topology(topology: u64, n: usize, argument: usize) -> Built
         ensures { λ r. ⌜ r ≡ topologyOf topology n argument ⌝ }
     {

@@ -1,5 +1,5 @@
-// Sets of up to 64 marks, each in one word: mark i is binary digit i. Contracts speak of membership alone, and hold for every
-// argument: an index of 64 or more is no member, and is not set.
+// RULES none. Sets of up to 64 marks, each in one word: mark i is binary digit i. Contracts speak of membership alone,
+// and hold for every argument: an index of 64 or more is no member, and is not set.
 ghost use mathlib.Core.Path.{_≡_};
 ghost use mathlib.Core.Bool.{_||_, _&&_, not};
 ghost use Prim.Native.Nat.{ℕ};

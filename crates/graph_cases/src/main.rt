@@ -1,5 +1,5 @@
-// Replays questions about graphs and prints our answers; the file `stdout` holds the Rust's answers to the same questions.
-// A line asks, by numbers in decimal with single blanks between them:
+// RULES none. Replays questions about graphs and prints our answers; the file `stdout` holds the Rust's answers to the
+// same questions. A line asks, by numbers in decimal with single blanks between them:
 //   1 i n row0 .. row(n-1)      the diameter, and who hears i
 //   2 topology n argument       the rows of a topology, and its diameter
 //   3 i j n row0 .. row(n-1)    whether j hears i, and whether what i sends can come to j

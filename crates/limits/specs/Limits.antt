@@ -1,4 +1,4 @@
--- Document 01, "Kept from the repository, and written anew": what a room never exceeds. Assumes nothing: these are definitions.
+-- RULES 16: what a room never exceeds. Assumes nothing: these are definitions.
 use Prim.Native.Nat.{ℕ, _-_, _^_}
 
 abbrev pub positions : ℕ

@@ -1,4 +1,4 @@
--- Document 01, "Refusals from the input" and "Refusals from the state": their numbers. What each is for is said where it is told; src/refusals.rt has them in
+-- RULES 15: the numbers of the refusals. What each is for is said where it is told; src/refusals.rt has them in
 -- words. 0 is no refusal. Assumes nothing: these are definitions.
 use Prim.Native.Nat.{ℕ}
 

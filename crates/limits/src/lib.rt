@@ -1,4 +1,4 @@
-// The numbers that every layer goes by: what a room never exceeds, and the refusals.
+// RULES 16. The numbers that every layer goes by: what a room never exceeds, and the refusals.
 pub mod refusals;
 
 pub const POSITIONS: usize = 64;

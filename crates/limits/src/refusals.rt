@@ -1,4 +1,5 @@
-// Refusals by their numbers. Where several hold the lowest is told, but for NO_FIT of a stated length, which comes before BAD_PACKET. 0 is no refusal.
+// RULES 15. Refusals by their numbers. Where several hold the lowest is told, but for NO_FIT of a stated length, which
+// comes before BAD_PACKET. 0 is no refusal.
 
 // A frame line: a digit, its length, its kind or its name.
 pub const BAD_LINE: u64 = 1;

@@ -1,4 +1,4 @@
--- Small inputs and their listings, computed over the rule. Assumes nothing.
+-- RULES 14.2. Small inputs and their listings, computed over the rule. Assumes nothing.
 use mathlib.Core.List.{List, [], _∷_, _++_}
 use mathlib.Core.Path.{_≡_, refl}
 use Prim.Native.Nat.{ℕ}

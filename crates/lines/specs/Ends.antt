@@ -1,4 +1,4 @@
--- Where a line ends, as a search finds it. Assumes nothing.
+-- RULES 14.2. Where a line ends, as a search finds it. Assumes nothing.
 use mathlib.Core.List.{List}
 use mathlib.Core.Path.{_≡_}
 use Prim.Native.Nat.{ℕ, _≤_, _<_}

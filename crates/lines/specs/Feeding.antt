@@ -1,5 +1,5 @@
--- What one call makes of the line so far and the bytes behind it, if its output may be too short for all answers.
--- Assumes nothing: these are definitions.
+-- RULES 14.3. What one call makes of the line so far and the bytes behind it, if its output may be too short for all
+-- answers. Assumes nothing: these are definitions.
 use mathlib.Core.Bool.{Bool, _&&_}
 use mathlib.Core.List.{List, [], _∷_, _++_}
 use mathlib.Core.Path.{_≡_}
@@ -52,8 +52,8 @@ unfoldable pub wordsBehind : List (List ℕ) → List ℕ → List ℕ
 wordsBehind [] words = words
 wordsBehind (l ∷ ls) words = wordsBehind ls (wordsIn l words)
 
--- ---- the call: n bytes of a text are the line so far, and `used` bytes of the output are taken; a stated length beyond
--- its list, or too few words, is 10
+-- ---- the call: n bytes of a text are the line so far, and `used` bytes of the output are taken; a stated length
+-- beyond its list, or too few words, is 10
 
 abbrev pub feeds : ℕ → ℕ → ℕ → ℕ → ℕ → Bool
 feeds text n words out used = leb n text && (leb frameWords words && leb used out)

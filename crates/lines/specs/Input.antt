@@ -1,4 +1,4 @@
--- Document 01, "After the rounds": what the program prints for the bytes that it reads. Assumes nothing: these are definitions.
+-- RULES 14.2: what the program prints for the bytes that it reads. Assumes nothing: these are definitions.
 use mathlib.Core.List.{List, [], _∷_, _++_}
 use Prim.Native.Nat.{ℕ}
 use lib.Dec.{eqb}

@@ -1,5 +1,5 @@
--- However an input is cut into reads, and wherever the output was full, the listing is the same. Assumes nothing: it is
--- proved in proofs/Cutting.antt and proofs/Standing.antt.
+-- RULES 14.2 and 14.3. However an input is cut into reads, and wherever the output was full, the listing is the same.
+-- Assumes nothing: it is proved in proofs/Cutting.antt and proofs/Standing.antt.
 use mathlib.Core.List.{List, [], _∷_, _++_}
 use mathlib.Core.Path.{_≡_}
 use Prim.Native.Nat.{ℕ, _-_, _≤_, _<_}

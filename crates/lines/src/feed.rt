@@ -1,4 +1,4 @@
-// Listing lines for the lines that end in what was read.
+// RULES 14.2 and 14.3. Listing lines for the lines that end in what was read.
 ghost use mathlib.Core.Path.{_≡_};
 ghost use mathlib.Core.List.{[], _∷_};
 ghost use Prim.Native.Nat.{_+_, min, _≤_, _<_};

@@ -1,4 +1,4 @@
-// Where a line ends.
+// RULES 14.2. Where a line ends.
 ghost use mathlib.Core.Path.{_≡_};
 ghost use Prim.Native.Nat.{_≤_};
 ghost use lib.ListN.{length};

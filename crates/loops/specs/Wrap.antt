@@ -1,4 +1,4 @@
--- Sums and products that keep 64 binary digits. Assumes nothing: these are definitions.
+-- RULES none. Sums and products that keep 64 binary digits. Assumes nothing: these are definitions.
 use Prim.Native.Nat.{ℕ, _+_, _*_, _%_, _^_}
 
 abbrev pub add64 : ℕ → ℕ → ℕ

@@ -1,4 +1,4 @@
--- A proposal is what 01 says of it.
+-- A proposal is what RULES 6.6 says of it.
 -- Assumes nothing.
 use mathlib.Core.Path.{_≡_, refl, sym, ap, ap₂, _∙_}
 use mathlib.Core.Bool.{Bool, true, false, _&&_, _||_}

@@ -1,4 +1,4 @@
--- Late frames, by change request 12: lists of proposals and of deliveries, where a delivery may bring whatever packet was
+-- Late frames, by RULES 11.11: lists of proposals and of deliveries, where a delivery may bring whatever packet was
 -- held somewhere before.
 -- Assumes nothing: these are definitions and a statement, which proofs/Late.antt proves.
 use mathlib.Core.Path.{_≡_}

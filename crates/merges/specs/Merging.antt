@@ -1,7 +1,8 @@
--- Proposing, merging and the tests of what is held, by 01, "Votes and packets" (merge), "Capture round" (propose, goal) and "After the rounds" (outcome).
--- A bitmap has its length and a word of 64 marks: entry i is there if i is below the length, and true if the word has mark i. So an entry from 64 on is
--- false and stays so, and the rules hold for every n, position and length. Every bitmap made here has no mark at or behind its length.
--- Assumes nothing: these are definitions.
+-- Proposing, merging and the tests of what is held, by RULES 6.1, 6.2, 6.3, 6.4 and 6.5 (merge), RULES 6.6 (propose)
+-- and RULES 6.7 (goal, outcome). A bitmap has its length and a word of 64 marks: entry i is there if i is below the
+-- length, and true if the word has mark i. So an entry from 64 on is false and stays so, and the rules hold for every
+-- n, position and length. Every bitmap made here has no mark at or behind its length. Assumes nothing: these are
+-- definitions.
 use mathlib.Core.Bool.{Bool, true, false, not, _&&_, _||_}
 use mathlib.Core.List.{List, []}
 use Prim.Native.Nat.{ℕ, _+_, max}
@@ -27,11 +28,12 @@ use Rattle.merges.specs.declared.merging.Held.the-variants.{Empty, Unrea
 use Rattle.merges.specs.declared.merging.Payload.{Payload}
 use Rattle.merges.specs.declared.merging.Merged.{Merged}
 
--- who votes no: `nay t i` is true where position i does in term t. Every rule here holds for any such votes; those of a room are `noOf` its settings
+-- who votes no: `nay t i` is true where position i does in term t. Every rule here holds for any such votes; those of
+-- a room are `noOf` its settings
 abbrev pub Noes : Type 0
 Noes = ℕ → ℕ → Bool
 
--- ---- bitmaps ("Votes and packets")
+-- ---- bitmaps (RULES 6.5)
 
 abbrev pub entry : Bitmap → ℕ → Bool
 entry b i = ltb i (b .len) && has (b .marks) i
@@ -60,7 +62,7 @@ joinNews n a b = anyOf 64 (λ j. (ltb j (a .len) && (ltb j n && entry b j)) && n
 unfoldable pub unanimousOf : ℕ → Bitmap → Bool
 unanimousOf n b = leb n (b .len) && allOf (b .len) (λ j. has (b .marks) j)
 
--- ---- packets ("Votes and packets")
+-- ---- packets (RULES 6.3 and 6.4)
 
 -- which phase outranks which
 unfoldable pub rankOf : TwoPcPhase → ℕ
@@ -106,7 +108,8 @@ settled n v d = settledOf n v d (d .packet .phase)
 unfoldable pub adoptedOf : Noes → ℕ → ℕ → CeTwoPcPacket → CeTwoPcPacket
 adoptedOf nay n v p = settled n v (record { packet = voicedOf nay n v (ensureOf n p) (ensureOf n p .phase); news = true }) .packet
 
--- two packets of one term: the phase that outranks the other brings its bitmap, and one phase in both joins the two; the data never moves
+-- two packets of one term: the phase that outranks the other brings its bitmap, and one phase in both joins the two;
+-- the data never moves
 unfoldable pub raisedOf : ℕ → CeTwoPcPacket → CeTwoPcPacket → Draft
 raisedOf n l r =
     either (ltb (rankOf (l .phase)) (rankOf (r .phase)))
@@ -125,7 +128,7 @@ ownOf nay n v d =
 unfoldable pub sameTermOf : Noes → ℕ → ℕ → CeTwoPcPacket → CeTwoPcPacket → Draft
 sameTermOf nay n v l r = settled n v (ownOf nay n v (raisedOf n (ensureOf n l) (ensureOf n r)))
 
--- ---- the merge, in 01's order ("Votes and packets")
+-- ---- the merge, in the order of RULES 6.2
 
 -- nothing new: what is held goes back as it came
 abbrev pub redundant : Payload → Merged
@@ -141,7 +144,8 @@ concluded l d = either (d .news) (newInfo (d .packet)) (redundant l)
 unfoldable pub outdated : ℕ → ℕ → Bool
 outdated t u = ltb t u
 
--- the received text is a packet p: an empty local adopts, an unreadable one is left; a higher term is adopted, a lower one left
+-- the received text is a packet p: an empty local adopts, an unreadable one is left; a higher term is adopted, a lower
+-- one left
 unfoldable pub heardOf : Noes → ℕ → ℕ → Payload → CeTwoPcPacket → Held → Merged
 heardOf nay n v l p Empty = newInfo (adoptedOf nay n v p)
 heardOf nay n v l p Unreadable = redundant l
@@ -158,7 +162,7 @@ mergedBy nay n v l p Packet = heardOf nay n v l p (l .held)
 unfoldable pub mergeOf : Noes → ℕ → ℕ → Payload → Payload → Merged
 mergeOf nay n v l r = mergedBy nay n v l (r .packet) (r .held)
 
--- ---- texts ("Votes and packets")
+-- ---- texts (RULES 6.1)
 
 -- what the first len bytes of a buffer are: nothing, a packet's text, or no packet's
 abbrev pub readAs : ℕ → CeRead → Payload
@@ -167,7 +171,7 @@ readAs len r = record { held = either (eqb len 0) Empty (either (eqb (r .refusal
 unfoldable pub payloadOf : List ℕ → ℕ → Payload
 payloadOf s len = readAs len (ceRead s len)
 
--- ---- the proposal ("Capture round")
+-- ---- the proposal (RULES 6.6)
 
 -- n entries, all false
 abbrev pub blank : ℕ → ℕ → CeTwoPcPacket
@@ -177,7 +181,7 @@ blank n t = record { term = t; phase = Prepare; «proposal_data» = proposalData
 unfoldable pub proposalOf : Noes → ℕ → ℕ → ℕ → CeTwoPcPacket
 proposalOf nay n v t = adoptedOf nay n v (blank n (add64 t 1))
 
--- ---- what is held ("Capture round": goal and sleep; "After the rounds": outcome)
+-- ---- what is held (RULES 6.7)
 
 -- 0: no packet, and above that the phase
 unfoldable pub standingBy : TwoPcPhase → Held → ℕ

@@ -1,4 +1,4 @@
--- Slips: no rule of 01. A merge never looks at a packet's data, so it is computed on packets without it; here is said
+-- Slips: RULES none. A merge never looks at a packet's data, so it is computed on packets without it; here is said
 -- what such a slip stands for.
 -- Assumes nothing: these are definitions.
 use mathlib.Core.Path.{_≡_}
@@ -33,8 +33,8 @@ draftOf d x = record { packet = packetOf d (x .slip); news = x .news }
 abbrev pub answered : (ℕ → Data) → Payload → slips.Draft → Merged
 answered d l x = concluded l (draftOf d x)
 
--- r is what position v makes of a received slip. Whatever payload the local slip stands for, and whatever the data are, the
--- merge's rule says what r says; and without news the slip handed back is the local one.
+-- r is what position v makes of a received slip. Whatever payload the local slip stands for, and whatever the data
+-- are, the merge's rule says what r says; and without news the slip handed back is the local one.
 pub record HeardBy (nay : Noes) (n v : ℕ) (held : Held) (local received : Slip) (r : slips.Draft) : Type 0 where
   pub merged : (d : ℕ → Data) (l : Payload) → l .held ≡ held → (held ≡ Packet → l .packet ≡ packetOf d local)
       → heardOf nay n v l (packetOf d received) held ≡ answered d l r

@@ -1,5 +1,6 @@
--- What a packet may claim of the votes of its term, and what merging keeps: the laws on which demand 3's agreement rests.
--- Assumes nothing: these are definitions and statements. They are proved in Safety, Growth, Marking, Staying, Limits and Proposing of proofs/.
+-- RULES 11.9. What a packet may claim of the votes of its term, and what merging keeps: the laws on which demand 3's
+-- agreement rests. Assumes nothing: these are definitions and statements. They are proved in Safety, Growth, Marking,
+-- Staying, Limits and Proposing of proofs/.
 use mathlib.Core.Path.{_≡_}
 use mathlib.Core.Bool.{Bool, true, false, not, _&&_, _||_}
 use mathlib.Core.Logic.{_⊎_}
@@ -132,7 +133,8 @@ MergesValid =
 abbrev pub ProposesValid : Type 0
 ProposesValid = (nay : Noes) (n v t : ℕ) → n ≤ positions → ValidCe (proposalOf nay n v t)
 
--- ---- what 01, "Capture round", says of a proposal: a maker that votes no aborts, a lone one commits, any other waits for votes; the one mark is the maker's
+-- ---- what RULES 6.6 says of a proposal: a maker that votes no aborts, a lone one commits, any other waits for votes;
+-- the one mark is the maker's
 abbrev pub ProposalSays : Type 0
 ProposalSays =
     (nay : Noes) (n v t : ℕ) → v < n

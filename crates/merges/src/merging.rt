@@ -1,5 +1,6 @@
-// Proposing and merging the capture rooms' packets, and the tests of what positions hold: the protocol half of two_pc_ce.rs,
-// on packets by value. A merge is computed on slips, so that it does not carry the data's 32 bytes through every step.
+// RULES 6. Proposing and merging the capture rooms' packets, and the tests of what positions hold: the protocol half
+// of two_pc_ce.rs, on packets by value. A merge is computed on slips, so that it does not carry the data's 32 bytes
+// through every step.
 use crate::votes;
 use crate::votes::Voting;
 use graph::sets;
@@ -326,8 +327,8 @@ fn hear_packet(voting: Voting, local: Slip, received: Slip, node_id: usize) -> D
     }
 }
 
-// What position node_id makes of a packet, by what it holds: an empty one takes it. What is no news leaves the local as
-// it came, a short bitmap too.
+// What position node_id makes of a packet, by what it holds: an empty one takes it. What is no news leaves the local
+// as it came, a short bitmap too.
 pub fn hear(voting: Voting, held: Held, local: Slip, received: Slip, node_id: usize) -> Draft
     ensures { λ r. ⌜ HeardBy (noOf voting) (voting .n) «node_id» held local received r ⌝ }
 {
@@ -448,8 +449,8 @@ fn blank_slip(n: usize, term: u64) -> Slip
     }
 }
 
-// The packet of the term after `term`, with the initiator's own vote. That there is such a term, and that the initiator is one of
-// the positions, is for the room to say.
+// The packet of the term after `term`, with the initiator's own vote. That there is such a term, and that the
+// initiator is one of the positions, is for the room to say.
 pub fn init_proposal(voting: Voting, term: u64, initiator: usize) -> CeTwoPcPacket
     ensures { λ r. ⌜ r ≡ proposalOf (noOf voting) (voting .n) initiator term ⌝ }
 {

@@ -1,10 +1,11 @@
-// How a position votes on a proposal: by its hash with the term, so that whoever asks gets the same answer.
+// RULES 4.1. How a position votes on a proposal: by its hash with the term, so that whoever asks gets the same answer.
 ghost use mathlib.Core.Path.{_≡_};
 ghost use lib.Ieee.{binary64};
 ghost use Rattle.merges.specs.Votes.{hashOf, shareOf, noOf};
 ghost use Rattle.loops.specs.Wrap.{mul64};
 
-// What a vote and a merge turn on: the number of positions, how likely a no is, and the seed. A room's settings hold them.
+// What a vote and a merge turn on: the number of positions, how likely a no is, and the seed. A room's settings hold
+// them.
 pub struct Voting {
     pub n: usize,
     pub abort_probability: f64,

@@ -1,4 +1,4 @@
--- The text of a packet, by 01, "Votes and packets": serde_json's compact form, and the packets that have one.
+-- The text of a packet, by RULES 5.1, 5.2, 5.3 and 5.5: serde_json's compact form, and the packets that have one.
 -- Assumes nothing: these are definitions.
 use mathlib.Core.Path.{_≡_}
 use mathlib.Core.Bool.{Bool, true, false, _&&_}
@@ -123,8 +123,8 @@ pipelineText p =
     ++ (keyPiggybackState ++ (stateText (p .«piggyback_state»)
     ++ keyEnd)))))))))))))))))
 
--- refusal 9: a packet within the limits has at most 64 entries in its bitmap and at most 32 bytes of data, which is the
--- most that is read and written
+-- refusal 9: a packet within the limits has at most 64 entries in its bitmap and at most 32 bytes of data, which is
+-- the most that is read and written
 abbrev pub mostBytes : ℕ
 mostBytes = dataBytes
 
@@ -137,7 +137,8 @@ ceWithin p = limits (p .«flags_bitmap» .len) (p .«proposal_data» .len)
 abbrev pub pipelineWithin : TwoPcPacket → Bool
 pipelineWithin p = limits (p .«flags_bitmap» .len) (p .«transaction_data» .len)
 
--- ---- The packets that a text stands for: within the limits, numbers of 64 bits, bytes of 8, and nothing behind the lengths.
+-- ---- The packets that a text stands for: within the limits, numbers of 64 bits, bytes of 8, and nothing behind the
+-- lengths.
 pub record ValidBitmap (b : Bitmap) : Type 0 where
   pub atMost64 : b .len ≤ bitmapEntries
   pub marks-lt : b .marks < 2 ^ b .len
@@ -164,7 +165,7 @@ pub record ValidPipeline (p : TwoPcPacket) : Type 0 where
   pub bytes : ValidData (p .«transaction_data»)
   pub bitmap : ValidBitmap (p .«flags_bitmap»)
 
--- ---- the data of a proposal ("Capture round")
+-- ---- the data of a proposal (RULES 6.6)
 
 -- "tx" and the term in decimal
 abbrev pub proposalText : ℕ → List ℕ

@@ -1,5 +1,5 @@
--- What the packets layer promises of each family, in one record for both. The proofs are `proofs/Promises.antt`.
--- Assumes nothing: these are statements.
+-- RULES 5.3, 5.4 and 5.5. What the packets layer promises of each family, in one record for both. The proofs are
+-- `proofs/Promises.antt`. Assumes nothing: these are statements.
 use mathlib.Core.Path.{_≡_}
 use mathlib.Core.Bool.{Bool, true}
 use mathlib.Core.List.{List}

@@ -1,6 +1,6 @@
--- The reader of a packet's text, by 01, "Votes and packets" and refusals 9 and 10: it takes exactly the texts that a writer writes within the limits.
--- It goes from left to right, field by field. That it takes those texts and no others is `specs/Promises.antt`.
--- Assumes nothing: these are definitions.
+-- The reader of a packet's text, by RULES 5.4, and refusals 9 and 10 of RULES 15: it takes exactly the texts that a
+-- writer writes within the limits. It goes from left to right, field by field. That it takes those texts and no others
+-- is `specs/Promises.antt`. Assumes nothing: these are definitions.
 use mathlib.Core.Bool.{Bool, true, false}
 use mathlib.Core.List.{List, [], _∷_}
 use Prim.Native.Nat.{ℕ, _+_, _^_}

@@ -1,6 +1,6 @@
--- What the writers answer and leave, by 01, "Votes and packets" and refusals 9 and 10, for a packet with the text t; `fine` says that it is within the limits.
--- And how long a capture packet's text is, told from its parts: no rule of 01; proofs/Lengths has it equal to the text's length.
--- Assumes nothing: these are definitions.
+-- What the writers answer and leave, by RULES 5.6, and refusals 9 and 10 of RULES 15, for a packet with the text t;
+-- `fine` says that it is within the limits. And how long a capture packet's text is, told from its parts: no rule;
+-- proofs/Lengths has it equal to the text's length. Assumes nothing: these are definitions.
 use mathlib.Core.Bool.{Bool, true, false, _&&_}
 use mathlib.Core.List.{List}
 use Prim.Native.Nat.{ℕ, _+_, _-_, _*_}
@@ -30,9 +30,9 @@ dataLen d = textLen (leb (d .len) mostBytes) (dataText d)
 unfoldable pub bitmapLen : Bitmap → ℕ
 bitmapLen b = either (eqb (b .len) 0) 2 (1 + 6 * b .len - countOf (b .marks) (b .len))
 
--- the length of a packet's text from its term, its phase, the length k of its data's text, and its bitmap; names, braces,
--- commas and colons are 51 bytes. 0 if the bitmap has too many entries, if there is no data's text (k is 0), or if k is
--- more than a data's text can have: 129, for 32 bytes of three digits
+-- the length of a packet's text from its term, its phase, the length k of its data's text, and its bitmap; names,
+-- braces, commas and colons are 51 bytes. 0 if the bitmap has too many entries, if there is no data's text (k is 0),
+-- or if k is more than a data's text can have: 129, for 32 bytes of three digits
 unfoldable pub partsLen : ℕ → TwoPcPhase → ℕ → Bitmap → ℕ
 partsLen t f k b =
     either (leb (b .len) bitmapEntries && (ltb 0 k && leb k 129))
@@ -42,7 +42,8 @@ partsLen t f k b =
 abbrev pub refused : ℕ → Wrote
 refused k = record { refusal = k; next = 0 }
 
--- the answer of a writer at index `at` of the buffer d: 9 outside the limits, then 10 if the text does not fit, else the index behind the text
+-- the answer of a writer at index `at` of the buffer d: 9 outside the limits, then 10 if the text does not fit, else
+-- the index behind the text
 unfoldable pub wroteOf : Bool → List ℕ → List ℕ → ℕ → Wrote
 wroteOf fine t d at =
     either fine

@@ -1,4 +1,4 @@
-// How long the texts of a packet's parts are, without writing them.
+// RULES 7.5. How long the texts of a packet's parts are, without writing them.
 use crate::Bitmap;
 use crate::Data;
 use crate::PiggybackState;

@@ -1,4 +1,5 @@
-// The text of both packet families: written into a lent buffer, measured, and read. The forms are those of two_pc_ce.rs and two_pc_pipeline.rs.
+// RULES 5. The text of both packet families: written into a lent buffer, measured, and read. The forms are those of
+// two_pc_ce.rs and two_pc_pipeline.rs.
 pub mod len;
 mod put;
 mod read;

@@ -1,4 +1,5 @@
-// The writers of a packet's parts. Each is called where its text fits, and leaves every other byte as it was.
+// RULES 5.3 and 5.6. The writers of a packet's parts. Each is called where its text fits, and leaves every other byte
+// as it was.
 use crate::Bitmap;
 use crate::Data;
 use crate::PiggybackState;

@@ -1,4 +1,5 @@
-// The readers of a packet's parts. Each takes exactly what the writer of its part writes, and answers with the place behind it.
+// RULES 5.4. The readers of a packet's parts. Each takes exactly what the writer of its part writes, and answers with
+// the place behind it.
 use crate::Bitmap;
 use crate::Data;
 use crate::PiggybackState;

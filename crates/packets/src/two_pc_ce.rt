@@ -1,4 +1,4 @@
-// The text of the capture rooms' packets: the packet half of two_pc_ce.rs.
+// RULES 5.1. The text of the capture rooms' packets: the packet half of two_pc_ce.rs.
 use crate::Bitmap;
 use crate::CeRead;
 use crate::CeTwoPcPacket;
@@ -67,7 +67,8 @@ fn put_ce(buf: &mut [u8], at: usize, p: CeTwoPcPacket) -> usize
     put::put_byte(buf, o4, b'}')
 }
 
-// Writes a packet's text from index at on: refusal 9 outside the limits, 10 where it does not fit, and then the buffer is as it was.
+// Writes a packet's text from index at on: refusal 9 outside the limits, 10 where it does not fit, and then the buffer
+// is as it was.
 pub fn write_ce_packet(buf: &mut [u8], at: usize, p: CeTwoPcPacket) -> Wrote
     ensures { λ r. ⌜ r ≡ wroteOf (ceWithin p) (ceText p) (now (buf .entry)) at ⌝ }
     ensures { λ _. ⌜ now (buf .exit) ≡ leftOf (ceWithin p) (ceText p) (now (buf .entry)) at ⌝ }

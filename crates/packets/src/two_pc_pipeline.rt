@@ -1,4 +1,4 @@
-// The text of the pipeline rooms' packets: the packet half of two_pc_pipeline.rs.
+// RULES 5.2. The text of the pipeline rooms' packets: the packet half of two_pc_pipeline.rs.
 use crate::Bitmap;
 use crate::Data;
 use crate::PiggybackState;
@@ -79,7 +79,8 @@ fn put_pipeline(buf: &mut [u8], at: usize, p: TwoPcPacket) -> usize
     put::put_byte(buf, o9, b'}')
 }
 
-// Writes a packet's text from index at on: refusal 9 outside the limits, 10 where it does not fit, and then the buffer is as it was.
+// Writes a packet's text from index at on: refusal 9 outside the limits, 10 where it does not fit, and then the buffer
+// is as it was.
 pub fn write_pipeline_packet(buf: &mut [u8], at: usize, p: TwoPcPacket) -> Wrote
     ensures { λ r. ⌜ r ≡ wroteOf (pipelineWithin p) (pipelineText p) (now (buf .entry)) at ⌝ }
     ensures { λ _. ⌜ now (buf .exit) ≡ leftOf (pipelineWithin p) (pipelineText p) (now (buf .entry)) at ⌝ }

@@ -1,5 +1,5 @@
--- Through the entries for C what is written is read back, and what is read is written again. 01 says that the reader
--- takes exactly what the writer can write; here the same is said of numbers and bytes.
+-- RULES 17 and RULES 5.4. Through the entries for C what is written is read back, and what is read is written again.
+-- The reader takes exactly what the writer can write; here the same is said of numbers and bytes.
 -- Assumes nothing: these are statements, proved in proofs/Back.antt.
 use mathlib.Core.Path.{_≡_}
 use mathlib.Core.List.{List}

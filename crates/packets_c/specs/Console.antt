@@ -1,4 +1,4 @@
--- The C entries, by 01, "Votes and packets" (the desk in C) and refusals 9 and 10: packets as numbers and bytes in lent slices.
+-- The C entries, by RULES 17, and refusals 9 and 10 of RULES 15: packets as numbers and bytes in lent slices.
 -- Assumes nothing: these are definitions.
 use mathlib.Core.Bool.{Bool, _&&_, _||_}
 use mathlib.Core.List.{List, [], _∷_}
@@ -81,12 +81,13 @@ pipelineTold text len numbers bytes =
     (either (leb dataBytes bytes) (pipelineRead text len) (pipelineNo noFit))
     (pipelineNo noFit)
 
--- a lent slice afterwards: what is handed out from its first place on, and all else, or on a refusal everything, as it was
+-- a lent slice afterwards: what is handed out from its first place on, and all else, or on a refusal everything, as it
+-- was
 unfoldable pub handed : ℕ → List ℕ → List ℕ → List ℕ
 handed refusal values d = either (eqb refusal 0) (written d 0 values) d
 
--- ---- writing: the packet that the numbers ask for, or the refusal: 10 if a slice is too short, then 9 for numbers that
--- no packet within the limits has. So what is written is read back as it was asked for (specs/Back.antt)
+-- ---- writing: the packet that the numbers ask for, or the refusal: 10 if a slice is too short, then 9 for numbers
+-- that no packet within the limits has. So what is written is read back as it was asked for (specs/Back.antt)
 abbrev pub dataAsked : List ℕ → ℕ → Data
 dataAsked bytes n = record { len = n; bytes = written (replicate 32 0) 0 (take n bytes) }
 

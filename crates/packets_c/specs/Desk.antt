@@ -1,5 +1,6 @@
--- The merge on lent texts, by 01, "Votes and packets" and refusals 2, 8 and 10: the reader, the merge of packets and the writer, in that order.
--- Assumes nothing: these are definitions and statements. The statements are proved in Desks and Texting of proofs/.
+-- The merge on lent texts, by RULES 6.8, and refusals 2, 8 and 10 of RULES 15: the reader, the merge of packets and
+-- the writer, in that order. Assumes nothing: these are definitions and statements. The statements are proved in Desks
+-- and Texting of proofs/.
 use mathlib.Core.Path.{_≡_}
 use mathlib.Core.Bool.{Bool, true, false, _&&_}
 use mathlib.Core.List.{List}
@@ -27,14 +28,16 @@ use Rattle.merges.specs.declared.merging.Held.the-variants.{Empty, Unreadable, 
 use Rattle.merges.specs.declared.merging.Payload.{Payload}
 use Rattle.merges.specs.declared.merging.Merged.{Merged}
 
--- 2 for n outside 1 to 64, then 8 for a position that is none of them, then 10 for a stated length over its buffer; 0 for none
+-- 2 for n outside 1 to 64, then 8 for a position that is none of them, then 10 for a stated length over its buffer; 0
+-- for none
 unfoldable pub refusalOf : ℕ → ℕ → ℕ → ℕ → ℕ → ℕ → ℕ
 refusalOf n v cap len rcap rlen =
     either (ltb 0 n && leb n positions)
     (either (ltb v n) (either (leb len cap) (either (leb rlen rcap) 0 noFit) noFit) noPosition)
     badPositions
 
--- all that a call hands back: the refusal, and the local buffer, its stated length and the number that says whether there was news, as they are afterwards
+-- all that a call hands back: the refusal, and the local buffer, its stated length and the number that says whether
+-- there was news, as they are afterwards
 pub record Desk : Type 0 where
   pub refusal : ℕ
   pub text : List ℕ
@@ -62,7 +65,8 @@ answer local len was m = answered local len was (m .payload .packet) (m .result)
 abbrev pub voters : ℕ → Float → ℕ → Voting
 voters n p seed = record { n = n; «abort_probability» = p; seed = seed }
 
--- the call: position v of s .n positions merges the text in `received` into that in `local`; `was` is the news number before
+-- the call: position v of s .n positions merges the text in `received` into that in `local`; `was` is the news number
+-- before
 unfoldable pub deskOf : Voting → ℕ → List ℕ → ℕ → List ℕ → ℕ → ℕ → Desk
 deskOf s v local len received rlen was =
     either (eqb (refusalOf (s .n) v (length local) len (length received) rlen) 0)
@@ -76,7 +80,8 @@ unfoldable pub proposeRefusal : ℕ → ℕ → ℕ → ℕ
 proposeRefusal n v t =
     either (ltb 0 n && leb n positions) (either (ltb v n) (either (eqb t lastTerm) noTerm 0) noPosition) badPositions
 
--- the packet of the term after t, by position v, as the writer answers at the start of a buffer, and what it leaves there
+-- the packet of the term after t, by position v, as the writer answers at the start of a buffer, and what it leaves
+-- there
 unfoldable pub proposedOf : Voting → ℕ → ℕ → List ℕ → Wrote
 proposedOf s v t buf =
     either (eqb (proposeRefusal (s .n) v t) 0)
@@ -100,7 +105,8 @@ RefusedLeaves =
     × (deskOf s v local len received rlen was .len ≡ len)
     × (deskOf s v local len received rlen was .news ≡ was)
 
--- what is read from the local buffer after a call that is not refused is what the merge of packets leaves of what was read before
+-- what is read from the local buffer after a call that is not refused is what the merge of packets leaves of what was
+-- read before
 abbrev pub TextsFollow : Type 0
 TextsFollow =
     (s : Voting) (v : ℕ) (local : List ℕ) (len : ℕ) (received : List ℕ) (rlen was : ℕ)

@@ -1,4 +1,4 @@
-// The vote alone, for the differential runs.
+// RULES 17 and 4.1. The vote alone, for the differential runs.
 use merges::votes;
 use merges::votes::Voting;
 ghost use mathlib.Core.Path.{_≡_};

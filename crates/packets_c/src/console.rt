@@ -1,4 +1,5 @@
-// The entries for C: a packet is numbers and bytes in lent slices, the answer is the refusal, 0 for none. A refused call writes nothing.
+// RULES 17. The entries for C: a packet is numbers and bytes in lent slices, the answer is the refusal, 0 for none. A
+// refused call writes nothing.
 use limits::refusals;
 use packets::Bitmap;
 use packets::CeRead;
@@ -382,7 +383,8 @@ pub extern "C" fn ce_packet_read(
     0
 }
 
-// Writes the text of the packet that 5 numbers and its data ask for into buf from index at on, and the place behind it into next.
+// Writes the text of the packet that 5 numbers and its data ask for into buf from index at on, and the place behind it
+// into next.
 #[no_mangle]
 pub extern "C" fn ce_packet_write(
     numbers: &[u64],
@@ -438,7 +440,8 @@ pub extern "C" fn pipeline_packet_read(
     0
 }
 
-// Writes the text of the packet that 12 numbers and its data ask for into buf from index at on, and the place behind it into next.
+// Writes the text of the packet that 12 numbers and its data ask for into buf from index at on, and the place behind
+// it into next.
 #[no_mangle]
 pub extern "C" fn pipeline_packet_write(
     numbers: &[u64],

@@ -1,4 +1,4 @@
-// The merge on lent texts, for the C console.
+// RULES 6.8 and 6.6. The merge on lent texts, for the C console.
 use limits::refusals;
 use merges::merging;
 use merges::merging::Held;
@@ -75,8 +75,8 @@ fn rewrite(local: &mut [u8], local_len: &mut u64, news: &mut u64, p: CeTwoPcPack
     0
 }
 
-// Merges the received text into the local one, for position node_id of n. The answer is the refusal, 0 for none; `news` is 1 then if the local
-// text is new, and 0 if it is as it was. A refused call writes nothing.
+// Merges the received text into the local one, for position node_id of n. The answer is the refusal, 0 for none;
+// `news` is 1 then if the local text is new, and 0 if it is as it was. A refused call writes nothing.
 #[no_mangle]
 pub extern "C" fn ce_packet_merge(
     local: &mut [u8],
@@ -145,8 +145,8 @@ fn propose_refusal(n: usize, initiator: usize, term: u64) -> u64
     0
 }
 
-// Writes the text of the packet that position initiator of n proposes after `term`, and its length into next. The answer is the refusal,
-// 0 for none; a refused call writes nothing.
+// Writes the text of the packet that position initiator of n proposes after `term`, and its length into next. The
+// answer is the refusal, 0 for none; a refused call writes nothing.
 #[no_mangle]
 pub extern "C" fn ce_packet_propose(
     term: u64,

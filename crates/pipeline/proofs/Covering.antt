@@ -1,4 +1,4 @@
--- Document 01, "Identical flood and pipeline round": covered is counted by bytes. In a room of valid packets the
+-- RULES 10.10: covered is counted by bytes. In a room of valid packets the
 -- positions that a round counts are those that hold, at its end, the text of its initiator. Assumes nothing.
 use Prim.Native.Nat.{ℕ, zero, suc, _+_, _%_, _^_, _≤_, _<_}
 use mathlib.Core.Bool.{Bool, true, false, _||_, _&&_}

@@ -1,4 +1,4 @@
--- Document 01, "Identical flood and pipeline round": a room of t transactions accepts at most t + 1002 rounds, since
+-- RULES 10.11: a room of t transactions accepts at most t + 1002 rounds, since
 -- the round in which it stops is the last one. Assumes nothing.
 use mathlib.Core.Bool.{Bool, true, false, _&&_, _||_}
 use mathlib.Core.List.{List}

@@ -1,4 +1,4 @@
--- Document 01, demand 3's logs: whatever a round does, each log is the old log with something behind it. Assumes
+-- RULES 11.9, the logs: whatever a round does, each log is the old log with something behind it. Assumes
 -- nothing.
 use Prim.Native.Nat.{ℕ, _≤_, _<_}
 use mathlib.Core.Bool.{Bool, true, false, _&&_}

@@ -1,4 +1,4 @@
--- Document 01, demand 3's logs, over a whole round: what each step keeps, each position keeps, and so the room.
+-- RULES 11.9, the logs, over a whole round: what each step keeps, each position keeps, and so the room.
 -- Assumes nothing.
 use Prim.Native.Nat.{ℕ, zero, suc}
 use mathlib.Core.Bool.{Bool, true, false}

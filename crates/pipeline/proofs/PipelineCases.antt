@@ -1,4 +1,4 @@
--- Document 01's pipeline cases, computed over the rules. Assumes nothing.
+-- The pipeline cases of RULES 9.7, 10.4 and 10.12, computed over the rules. Assumes nothing.
 use Prim.Native.Nat.{ℕ, _+_}
 use mathlib.Core.Bool.{true, false}
 use mathlib.Core.List.{List, [], _∷_}

@@ -1,6 +1,6 @@
--- Document 01, "Traps in this trade", as laws over any state: nack 0 asks for nothing, an abort goes to its transaction
+-- RULES 10.5, 10.8 and 10.9, as laws over any state: nack 0 asks for nothing, an abort goes to its transaction
 -- only, and what a receiver judges enters no record. (Covered by bytes: Covering.) And a round is refused for nothing
--- but what 01 names. Assumes nothing.
+-- but what RULES 15 names. Assumes nothing.
 use Prim.Native.Nat.{ℕ, _+_, _-_, _*_, _/_, _≤_, _<_}
 use mathlib.Core.Bool.{Bool, false, _&&_}
 use mathlib.Core.List.{List}
@@ -33,7 +33,8 @@ pub nothing-asked : (s : NodeTwoPcState) (l : Carried) → answerNack 0 s l ≡ 
 unfolding answerNack isAnswer
 nothing-asked s l = refl
 
--- what is known of transaction u is as it was: the log, what is pending, the votes, and whether an abort is known of it
+-- what is known of transaction u is as it was: the log, what is pending, the votes, and whether an abort is known of
+-- it
 pub record Untouched (u : ℕ) (s x : NodeTwoPcState) : Type 0 where
   pub log : x .log ≡ s .log
   pub pending : x .pending ≡ s .pending

@@ -1,4 +1,4 @@
--- Document 01, "Identical flood and pipeline round": what a position knows of transactions. A log is an ordered list
+-- RULES 10.1, 10.6, 10.7, 10.9 and 4.2: what a position knows of transactions. A log is an ordered list
 -- of outcomes, with room for 64, and is only ever added to. Transactions have numbers below 64. Assumes nothing.
 use Prim.Native.Nat.{ℕ, _+_, _-_}
 use mathlib.Core.Bool.{Bool, true, false, not, _||_, _&&_}

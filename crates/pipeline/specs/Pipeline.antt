@@ -1,4 +1,4 @@
--- Document 01, "Identical flood and pipeline round": what a round says and what is done with it, `prepare_round` and
+-- RULES 10.3, 10.4, 10.5, 10.8, 10.11 and 5.2: what a round says and what is done with it, `prepare_round` and
 -- `process_round`, in their order of steps and draws. Assumes nothing.
 use Prim.Native.Nat.{ℕ, _+_, _-_, _/_, _%_, min}
 use mathlib.Core.Bool.{Bool, true, false, not, _||_, _&&_}

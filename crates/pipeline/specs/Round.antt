@@ -1,4 +1,5 @@
--- Document 01, "Identical flood and pipeline round", and refusals 2 and 14 to 17: one pipeline round. Assumes nothing.
+-- RULES 10.2, 10.4, 10.10, 10.11 and 7.6, and refusals 2 and 14 to 17 of RULES 15: one pipeline round. Assumes
+-- nothing.
 use Prim.Native.Nat.{ℕ, _+_, _*_, _/_, _%_, _^_}
 use mathlib.Core.Bool.{Bool, false, _||_, _&&_}
 use mathlib.Core.Path.{_≡_}
@@ -215,7 +216,7 @@ rowsOfRound ws conf w p d =
 abbrev pub dueOfRound : List ℕ → PipelineConf → Network → PipelinePart → Draw → ℕ
 dueOfRound ws conf w p d = length (rowsOfRound ws conf w p d) / rowCells
 
--- no rule of 01: what a run without rows must find out
+-- no rule: what a run without rows must find out
 pub record RoundSurveyed (ws : List ℕ) (conf : PipelineConf) (w : Network) (p : PipelinePart) (d : Draw)
     (r : RoundRun) (due : ℕ) : Type 0 where
   pub short : r .draw .short ≡ runRound ws conf w p d .draw .short

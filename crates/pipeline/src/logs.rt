@@ -1,4 +1,4 @@
-// Logs: ordered lists of outcomes that are only ever added to.
+// RULES 10.7. Logs: ordered lists of outcomes that are only ever added to.
 ghost use mathlib.Core.Path.{_≡_};
 ghost use lib.Dec.{eqb};
 ghost use Rattle.loops.specs.Pick.{either};

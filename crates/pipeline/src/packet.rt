@@ -1,4 +1,4 @@
-// A round's packet: the TwoPcPacket that it stands for, and whether two are the same.
+// RULES 5.2 and 10.10. A round's packet: the TwoPcPacket that it stands for, and whether two are the same.
 ghost use mathlib.Core.Path.{_≡_};
 ghost use mathlib.Core.Bool.{_&&_};
 ghost use lib.Dec.{eqb};

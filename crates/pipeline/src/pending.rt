@@ -1,4 +1,4 @@
-// What is pending at one position: votes, judgements, gaps.
+// RULES 10.1, 10.6 and 10.9. What is pending at one position: votes, judgements, gaps.
 ghost use mathlib.Core.Path.{_≡_};
 ghost use mathlib.Core.Bool.{_||_, _&&_};
 ghost use Prim.Native.Nat.{ℕ, _<_};

@@ -1,4 +1,5 @@
-// One round of a pipeline room, from sim/pipeline.rs: prepare, flood, process. A round that is refused changes nothing.
+// RULES 10.2, 10.4 and 10.11. One round of a pipeline room, from sim/pipeline.rs: prepare, flood, process. A round
+// that is refused changes nothing.
 ghost use mathlib.Core.Path.{_≡_};
 ghost use mathlib.Core.Bool.{_&&_};
 ghost use Prim.Native.Nat.{_<_, _≤_, _+_, _*_, _%_};
@@ -73,7 +74,7 @@ struct RoundSurvey {
     due: u64,
 }
 
-// 01's refusal number (0: none), the cursor, how many rows are used, and the room; the old ones if refused.
+// The refusal's number (RULES 15; 0: none), the cursor, how many rows are used, and the room; the old ones if refused.
 pub struct PipelineAnswer {
     pub refusal: u64,
     pub cursor: usize,

@@ -1,4 +1,5 @@
-// prepare_round of sim/two_pc_pipeline.rs: what the initiator does before the flood, and the packet that it floods.
+// RULES 10.3. prepare_round of sim/two_pc_pipeline.rs: what the initiator does before the flood, and the packet that
+// it floods.
 ghost use mathlib.Core.Path.{_≡_};
 ghost use Prim.Native.Nat.{_<_, _-_};
 ghost use mathlib.Core.Bool.{false};

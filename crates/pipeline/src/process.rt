@@ -1,4 +1,4 @@
-// process_round of sim/two_pc_pipeline.rs: what the positions that took part do with the flooded packet.
+// RULES 10.5. process_round of sim/two_pc_pipeline.rs: what the positions that took part do with the flooded packet.
 ghost use mathlib.Core.Path.{_≡_};
 ghost use mathlib.Core.Bool.{_&&_};
 ghost use Prim.Native.Nat.{min};

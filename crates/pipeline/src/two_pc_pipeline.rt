@@ -1,6 +1,6 @@
-// Ported from protocol/two_pc_pipeline.rs: what a position knows of transactions, and what a round's packet says. A
-// pending transaction's data is never read again, so it is not held; nor is the highest transaction seen, which
-// nobody reads.
+// RULES 10.1. Ported from protocol/two_pc_pipeline.rs: what a position knows of transactions, and what a round's
+// packet says. A pending transaction's data is never read again, so it is not held; nor is the highest transaction
+// seen, which nobody reads.
 use engines::words::Draw;
 
 // A finished transaction, and whether it was committed.
@@ -38,8 +38,8 @@ pub enum Piggyback {
     Present(usize, bool),
 }
 
-// What a round's packet says. The rest of a TwoPcPacket follows: the phase is Prepare, the bitmap has an entry for each
-// position, and the data is that of the transaction if it is new.
+// What a round's packet says. The rest of a TwoPcPacket follows: the phase is Prepare, the bitmap has an entry for
+// each position, and the data is that of the transaction if it is new.
 pub struct RoundPacket {
     pub tx: usize,
     pub bits: u64,

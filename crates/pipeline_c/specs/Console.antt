@@ -1,4 +1,4 @@
--- Document 01, "Where each language form belongs", entries on slices and numbers: a pipeline room as a lent list of numbers. A place
+-- RULES 17, entries on slices and numbers: a pipeline room as a lent list of numbers. A place
 -- past the end reads as 0, and nothing is put there. Assumes nothing.
 use mathlib.Core.Bool.{false}
 use mathlib.Core.List.{List, [], _∷_}

@@ -1,4 +1,4 @@
--- Document 01, "Identical flood and pipeline round", the rounds of a room: one after the other, as long as none is refused. Assumes
+-- RULES 17, the rounds of a room: one after the other, as long as none is refused. Assumes
 -- nothing.
 use Prim.Native.Nat.{ℕ}
 use mathlib.Core.Bool.{Bool, not}

@@ -1,12 +1,13 @@
-// The entries for differential runs: a room goes over as a lent list of numbers. What stands where:
+// RULES 17. The entries for differential runs: a room goes over as a lent list of numbers. What stands where:
 //   0 slot, next row slot, round, bytes sent, stopped, rows used, cursor     7 the counts of the room, 8 numbers
 //   15 the piggyback: whether there is one, its transaction, its outcome     18 who holds a packet, a mark each
 //   19 transactions generated, from 20 on the slot and from 84 on the round in which each was
 //   148 the records: how many, then each; from 213 on the slot of each transaction's
 //   277 the nodes, 8 numbers each
-//   789 what the positions know, 131 numbers each: entries of the log, the entries, pending, aborts, the votes on each transaction
-//   9173 the packets that they hold, 9 numbers each; 9749 in all
-// A place past the end of the list reads as 0, and nothing is put there. An entry of a log is its transaction, and 256 more if it was committed.
+//   789 what the positions know, 131 numbers each: entries of the log, the entries, pending, aborts, the votes on each
+// transaction
+//   9173 the packets that they hold, 9 numbers each; 9749 in all A place past the end of the list reads as 0, and
+// nothing is put there. An entry of a log is its transaction, and 256 more if it was committed.
 ghost use mathlib.Core.Path.{_≡_};
 ghost use Prim.Native.Nat.{_+_, _*_, _≤_, _<_};
 ghost use lib.Seq.{sets};
@@ -452,8 +453,8 @@ fn conf_of(
     }
 }
 
-// At most so many rounds of the room, up to the first that is refused. The answer is that refusal, or 0. Where no round was
-// accepted, the state is left as it was.
+// At most so many rounds of the room, up to the first that is refused. The answer is that refusal, or 0. Where no
+// round was accepted, the state is left as it was.
 #[no_mangle]
 pub extern "C" fn pipeline_rounds(
     state: &mut [u64],

@@ -1,4 +1,4 @@
-// Rounds one after the other, up to the first that is refused.
+// RULES 17. Rounds one after the other, up to the first that is refused.
 ghost use mathlib.Core.Path.{_≡_};
 ghost use Rattle.pipeline_c.specs.Play.{countAfter, noted, playRound, playRounds};
 use engines::network::Network;

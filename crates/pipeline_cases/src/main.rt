@@ -1,10 +1,12 @@
-// Plays pipeline rooms and prints how they end; the file `stdout` holds what the Rust says of the same rooms.
-// A line asks, by numbers in decimal with single blanks between them: topology, positions, argument, transactions, repeats, whether the slots
-// are given, slots, loss (over, under, turned round), abort probability (the same), interval of the rows, slot bound, seed of the words, words,
-// cursor, numbers in the row buffer, rows used, rounds at most.
-// The answer: the last round's refusal, rounds, slot, bytes sent, cursor, stopped, listening, flooding and sleeping in all, nacks, piggybacks,
-// frames tried and received, covered, one number that depends on all positions, logs, pending votes, records and rows, and, for up to 4
-// positions, each log: how many entries, and each. An entry is its transaction, and 256 more if it was committed.
+// RULES none. Plays pipeline rooms and prints how they end; the file `stdout` holds what the Rust says of the same
+// rooms. A line asks, by numbers in decimal with single blanks between them: topology, positions, argument,
+// transactions, repeats, whether the slots are given, slots, loss (over, under, turned round), abort probability (the
+// same), interval of the rows, slot bound, seed of the words, words, cursor, numbers in the row buffer, rows used,
+// rounds at most.
+// The answer: the last round's refusal, rounds, slot, bytes sent, cursor, stopped, listening, flooding and sleeping in
+// all, nacks, piggybacks, frames tried and received, covered, one number that depends on all positions, logs, pending
+// votes, records and rows, and, for up to 4 positions, each log: how many entries, and each. An entry is its
+// transaction, and 256 more if it was committed.
 use engines::clamp;
 use engines::network::Network;
 use engines::network::RoundConf;

@@ -1,4 +1,4 @@
-// Reads frames from standard input, one to a line, and prints the listing line of each.
+// RULES 14.2 and 14.3. Reads frames from standard input, one to a line, and prints the listing line of each.
 ghost use mathlib.Core.Bool.{true, false};
 ghost use mathlib.Core.Path.{_≡_};
 ghost use Prim.Native.Nat.{ℕ, _+_, _≤_, _<_};
@@ -42,8 +42,8 @@ fn flush(out: &[u8], used: usize) -> bool
     false
 }
 
-// What a read brought is answered before the next read: who waits for a line's answer gets it. Where the output is full
-// it is written, and filled anew. From the place handed back on stands the line that is left, if nothing failed.
+// What a read brought is answered before the next read: who waits for a line's answer gets it. Where the output is
+// full it is written, and filled anew. From the place handed back on stands the line that is left, if nothing failed.
 fn answer(text: &[u8], n: usize, words: &mut [u64], out: &mut [u8]) -> Answered
     requires { ⌜ (n ≤ length (now text)) × (frameWords ≤ length (now words)) × (endedBytes ≤ length (now out)) ⌝ }
     ensures { λ r. ⌜ (r .from ≤ length (now (text .entry))) × (r .failed ≡ false → drop (r .from) (now (text .entry)) ≡ leftOf (take n (now (text .entry))) (drop n (now (text .entry)))) ⌝ }

@@ -1,6 +1,6 @@
--- The readings of a room as one list: one for each function of src/readings.rt that is open to others, under its name and
--- with its arguments, and its answer, by the rule that the function's contract cites. A reading changes no room.
--- Assumes nothing: these are definitions.
+-- RULES 12. The readings of a room as one list: one for each function of src/readings.rt that is open to others, under
+-- its name and with its arguments, and its answer, by the rule that the function's contract cites. A reading changes
+-- no room. Assumes nothing: these are definitions.
 use Prim.Native.Nat.{ℕ}
 use mathlib.Core.List.{List}
 use Rattle.engines.specs.Metrics.{linkPdr, floodCoverage}

@@ -1,5 +1,6 @@
--- The readings of a room, by document 01: what each gives, and its refusal: where there is no such position (2, 8), the room is of the other kind (11), nobody has proposed (12,
--- the initiator), or a text cannot be written (9, 10, as the writer of packets says). Assumes nothing: these are definitions.
+-- The readings of a room, by RULES 12: what each gives, and its refusal: where there is no such position (2, 8), the
+-- room is of the other kind (11), nobody has proposed (12, the initiator), or a text cannot be written (9, 10, as the
+-- writer of packets says). Assumes nothing: these are definitions.
 use Prim.Native.Nat.{ℕ, _%_}
 use mathlib.Core.Bool.{Bool, true, false, _&&_}
 use mathlib.Core.List.{List}
@@ -107,8 +108,9 @@ logEntryOf r v k =
     let j = ofPipeline r v in
     either (eqb j 0) (entryOf (stateAt r v .log) k) (record { refusal = j; there = false; tx = 0; committed = false })
 
--- What is held of a transaction for a position. `start` is the room's, whether or not the position has heard of it, since it is the same for all who have, as the data is. An
--- abort and votes stay once the transaction is logged, where the Rust drops its entry: `pending` says whether there is one.
+-- What is held of a transaction for a position. `start` is the room's, whether or not the position has heard of it,
+-- since it is the same for all who have, as the data is. An abort and votes stay once the transaction is logged, where
+-- the Rust drops its entry: `pending` says whether there is one.
 unfoldable pub pendingIn : PipelinePart → NodeTwoPcState → ℕ → PendingReading
 pendingIn x s t =
     record {
@@ -126,7 +128,8 @@ pendingOf r v t =
     let j = ofPipeline r v in
     either (eqb j 0) (pendingIn (r .pipeline) (stateAt r v) t) (record { refusal = j; pending = false; abort = false; votes = 0; start = 0; «data» = dataOf false t })
 
--- the record at place k, in the order in which they were recorded, with the slots at which its transaction was generated and recorded
+-- the record at place k, in the order in which they were recorded, with the slots at which its transaction was
+-- generated and recorded
 unfoldable pub recordIn : PipelinePart → ℕ → RecordReading
 recordIn x k =
     let e = entryOf (x .records .log) k in

@@ -1,5 +1,5 @@
-// The readings of a room: what the Rust's state has, each with its refusal: there is no such position, the room is of the other kind, nobody has
-// proposed, or a text does not fit. A reading changes no room.
+// RULES 12. The readings of a room: what the Rust's state has, each with its refusal: there is no such position, the
+// room is of the other kind, nobody has proposed, or a text does not fit. A reading changes no room.
 ghost use mathlib.Core.Path.{_≡_};
 ghost use Prim.Native.Nat.{_<_};
 ghost use lib.Dec.{eqb};
@@ -61,8 +61,9 @@ pub struct EntryReading {
     pub committed: bool,
 }
 
-// What is held of a transaction for a position: whether it is pending, whether an abort is known of it, who has said yes, the round of its start, and its data if it is
-// pending. If it is not, the round is the room's all the same, and abort and votes are as they were last.
+// What is held of a transaction for a position: whether it is pending, whether an abort is known of it, who has said
+// yes, the round of its start, and its data if it is pending. If it is not, the round is the room's all the same, and
+// abort and votes are as they were last.
 pub struct PendingReading {
     pub refusal: u64,
     pub pending: bool,
@@ -209,7 +210,8 @@ pub fn stopped(r: Room) -> NumberReading
     number(pipeline_only(kind), x.stop as u64)
 }
 
-// Who floods first in a round of n positions: in a capture room who proposed last, in a pipeline room the positions take turns.
+// Who floods first in a round of n positions: in a capture room who proposed last, in a pipeline room the positions
+// take turns.
 pub fn initiator(r: Room) -> NumberReading
     ensures { λ k. ⌜ k ≡ initiatorNow r ⌝ }
 {
@@ -532,8 +534,8 @@ fn pipeline_text(n: usize, holds: bool, q: RoundPacket, out: &mut [u8]) -> TextR
     wrote(w)
 }
 
-// The text of what position v holds, written to the start of the buffer; 10 if it does not fit, and then the buffer is as it was. Who holds
-// nothing has a text of no bytes.
+// The text of what position v holds, written to the start of the buffer; 10 if it does not fit, and then the buffer is
+// as it was. Who holds nothing has a text of no bytes.
 pub fn packet_text(r: Room, v: usize, out: &mut [u8]) -> TextReading
     ensures { λ q. ⌜ q ≡ textOf r v (now (out .entry)) ⌝ }
     ensures { λ _. ⌜ now (out .exit) ≡ textLeft r v (now (out .entry)) ⌝ }

@@ -1,4 +1,5 @@
--- Document 01, "Capture round", in a room: proposals and rounds on the parts that they move, with their refusals. Assumes nothing.
+-- RULES 11.5, 11.6, 8.9 and 4.1, in a room: proposals and rounds on the parts that they move, with their refusals.
+-- Assumes nothing.
 use Prim.Native.Nat.{ℕ}
 use mathlib.Core.Bool.{Bool, true, false, not, _||_, _&&_}
 use mathlib.Core.List.{List}
@@ -84,7 +85,8 @@ captureRefusal c proposed slot =
 abbrev pub ceState : Network → CapturePart → CeState
 ceState w t = record { network = w; held = t .held; draw = record { at = 0; short = false }; ended = false }
 
--- the progress of a position, one higher: so it is for everybody once in a term, at the end of the first round that meets the goal
+-- the progress of a position, one higher: so it is for everybody once in a term, at the end of the first round that
+-- meets the goal
 unfoldable pub raised : Node → Node
 raised v =
     record {

@@ -1,4 +1,4 @@
--- The two kinds of room, and what is fixed when a room is opened. Assumes nothing.
+-- RULES 11.1. The two kinds of room, and what is fixed when a room is opened. Assumes nothing.
 use mathlib.Core.Bool.{Bool, true, false}
 use Prim.Native.Nat.{ℕ}
 use Rattle.room.specs.declared.room.RoomKind.{RoomKind}

@@ -1,4 +1,4 @@
--- Document 01, "Identical flood and pipeline round", in a room: the round on the parts that it moves, with its refusals. Assumes nothing.
+-- RULES 11.6, in a room: the round on the parts that it moves, with its refusals. Assumes nothing.
 use Prim.Native.Nat.{ℕ}
 use mathlib.Core.Bool.{Bool, not}
 use mathlib.Core.List.{List}

@@ -1,5 +1,5 @@
--- Document 01, "Refusals from the state": what a refused call leaves. This is demand 1's last clause, for the calls of a room. Assumes nothing: it is proved
--- in proofs/Refusing.antt.
+-- RULES 11.7: what a refused call leaves. This is demand 1's last clause, for the calls of a room. Assumes nothing: it
+-- is proved in proofs/Refusing.antt.
 use mathlib.Core.List.{List}
 use mathlib.Core.Path.{_≡_}
 use Prim.Native.Nat.{ℕ}
@@ -8,7 +8,8 @@ use Rattle.room.specs.declared.room.Room.{Room}
 use Rattle.room.specs.declared.room.RoundAnswer.{RoundAnswer}
 use Rattle.room.specs.Rooms.{proposeOf, captureOf, captureBuffer, pipelineOf, pipelineBuffer}
 
--- all that a round was lent or handed is what it was: the room, the cursor, the count of used rows, and every number of the row buffer
+-- all that a round was lent or handed is what it was: the room, the cursor, the count of used rows, and every number
+-- of the row buffer
 pub record AsBefore (r : Room) (at count : ℕ) (lent : List ℕ) (a : RoundAnswer) (left : List ℕ) : Type 0 where
   pub room : a .room ≡ r
   pub cursor : a .cursor ≡ at

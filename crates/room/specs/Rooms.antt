@@ -1,5 +1,5 @@
--- Rooms, by document 01: opening, proposals and rounds. A room's calls move the parts of its kind (specs/Capturing, specs/Pipelining) and leave the rest.
--- Assumes nothing: these are definitions.
+-- Rooms, by RULES 11.2, 11.3 and 11.4: opening, proposals and rounds. A room's calls move the parts of its kind
+-- (specs/Capturing, specs/Pipelining) and leave the rest. Assumes nothing: these are definitions.
 use Prim.Native.Nat.{ℕ}
 use mathlib.Core.Bool.{not, _&&_}
 use mathlib.Core.List.{List}
@@ -35,7 +35,7 @@ use Rattle.room.specs.declared.room.Opening.{Opening}
 use Rattle.room.specs.declared.room.Proposal.{Proposal}
 use Rattle.room.specs.declared.room.RoundAnswer.{RoundAnswer}
 
--- "Kept from the repository, and written anew": 64 positions, 64 transactions, the last slot, and the lengths of a packet's bitmap and data.
+-- RULES 16: 64 positions, 64 transactions, the last slot, and the lengths of a packet's bitmap and data.
 abbrev pub roomLimits : Limits
 roomLimits =
     record {
@@ -53,9 +53,10 @@ sizeOf r = positionsOf (r .conf)
 abbrev pub heldAt : Room → ℕ → Payload
 heldAt r v = getD (r .capture .held) v noPayload
 
--- ---- opening ("Refusals from the input", 2 to 7)
+-- ---- opening (2 to 7 of RULES 15)
 
--- 2 and 3 are those of the graph. 4: the loss. 5: a pipeline with no repeats. 6: no interval between rows. 7: too many transactions. The lowest, and 0 for none.
+-- 2 and 3 are those of the graph. 4: the loss. 5: a pipeline with no repeats. 6: no interval between rows. 7: too many
+-- transactions. The lowest, and 0 for none.
 unfoldable pub openRefusal : Asked → ℕ
 openRefusal a =
     orElse (graphRefusal (a .graph))

@@ -1,5 +1,6 @@
--- The slots of an accepted round as rooms: the room after each of them. In a flood packets and who holds one are still those of the round's start: they are put
--- together at its end, and demand 3 reads none of them. Assumes nothing: these are definitions.
+-- RULES 11.8. The slots of an accepted round as rooms: the room after each of them. In a flood packets and who holds
+-- one are still those of the round's start: they are put together at its end, and demand 3 reads none of them. Assumes
+-- nothing: these are definitions.
 use Prim.Native.Nat.{ℕ, zero, suc}
 use mathlib.Core.Bool.{Bool, true, false}
 use mathlib.Core.List.{List, [], _∷_, map}

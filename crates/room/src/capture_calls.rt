@@ -1,4 +1,5 @@
-// What the calls of a capture room do to the parts that they move: the network, and what the room has of its own. A room's calls are thin over these.
+// RULES 11.5 and 11.6. What the calls of a capture room do to the parts that they move: the network, and what the room
+// has of its own. A room's calls are thin over these.
 ghost use mathlib.Core.Path.{_≡_};
 ghost use mathlib.Core.Bool.{_||_};
 ghost use lib.ListN.{length, replicate};
@@ -23,8 +24,8 @@ use packets::CeTwoPcPacket;
 use packets::Data;
 use packets::TwoPcPhase;
 
-// What a capture room has of its own: the present term, who proposed in it, whether anybody has, whether the progress was raised for it, and what each
-// position holds.
+// What a capture room has of its own: the present term, who proposed in it, whether anybody has, whether the progress
+// was raised for it, and what each position holds.
 pub struct CapturePart {
     pub term: u64,
     pub initiator: usize,

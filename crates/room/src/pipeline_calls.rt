@@ -1,4 +1,4 @@
-// What the call of a pipeline room does to the parts that it moves. A room's call is thin over this.
+// RULES 11.6. What the call of a pipeline room does to the parts that it moves. A room's call is thin over this.
 ghost use mathlib.Core.Path.{_≡_};
 ghost use lib.ListN.{length};
 ghost use Rattle.room.specs.Pipelining.{pipeConf, pipelineRefusal, pipelinePart, pipelineRows};

@@ -1,5 +1,6 @@
-// A room of 1 to 64 positions: opened once with all that is fixed, then called. Capture rooms take proposals and capture rounds, pipeline rooms pipeline
-// rounds. A refused call hands back its number, and everything else as it was.
+// RULES 11.2 and 11.4. A room of 1 to 64 positions: opened once with all that is fixed, then called. Capture rooms
+// take proposals and capture rounds, pipeline rooms pipeline rounds. A refused call hands back its number, and
+// everything else as it was.
 ghost use mathlib.Core.Path.{_≡_};
 ghost use mathlib.Core.Bool.{_&&_};
 ghost use lib.Dec.{eqb};
@@ -25,7 +26,8 @@ pub enum RoomKind {
     Capture,
 }
 
-// What is fixed at the opening: the kind, what a round goes by, and of a pipeline room the number of transactions and the slot bound.
+// What is fixed at the opening: the kind, what a round goes by, and of a pipeline room the number of transactions and
+// the slot bound.
 pub struct RoomConf {
     pub kind: RoomKind,
     pub round: RoundConf,
@@ -52,8 +54,8 @@ pub struct Asked {
     pub bound: u64,
 }
 
-// The room opened; if refused, one of no positions: a proposal, a round, the initiator, the outcome and what is read of a position are 2 there,
-// and the other readings show a room as opened.
+// The room opened; if refused, one of no positions: a proposal, a round, the initiator, the outcome and what is read
+// of a position are 2 there, and the other readings show a room as opened.
 pub struct Opening {
     pub refusal: u64,
     pub room: Room,

@@ -1,4 +1,4 @@
--- Document 01, "Where each language form belongs": what a reading answers as numbers and floats, for an entry that can
+-- RULES 12 and RULES 17: what a reading answers as numbers and floats, for an entry that can
 -- be lent nothing else; each enum has its number here. Assumes nothing: these are definitions.
 use Prim.Native.Nat.{ℕ}
 use mathlib.Core.List.{List, [], _∷_}

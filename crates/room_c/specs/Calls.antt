@@ -1,7 +1,7 @@
--- The entry's list of numbers is a list of the room's own calls, readings among them. The room is left as that list
--- leaves it, so that whatever holds of every such list holds of what the entry leaves. What the entry tells of each
--- call is that call's answer in the room that it was made in, whatever calls came behind it. Assumes nothing: these are
--- statements. They are proved in proofs/Called.antt.
+-- RULES 17 and 11.11. The entry's list of numbers is a list of the room's own calls, readings among them. The room is
+-- left as that list leaves it, so that whatever holds of every such list holds of what the entry leaves. What the
+-- entry tells of each call is that call's answer in the room that it was made in, whatever calls came behind it.
+-- Assumes nothing: these are statements. They are proved in proofs/Called.antt.
 use mathlib.Core.List.{List, [], _∷_, _++_}
 use mathlib.Core.Option.{Option, none, some}
 use mathlib.Core.Path.{_≡_}

@@ -1,4 +1,4 @@
--- Document 01, "Where each language form belongs", entries on slices and numbers: a room opened and called by lent
+-- RULES 17, entries on slices and numbers: a room opened and called by lent
 -- lists of numbers, and its account as such a list. A place past the end reads as 0, and nothing is put there. Assumes
 -- nothing.
 use Prim.Native.Nat.{ℕ, _+_, _-_, _*_, _/_, _%_, _^_}

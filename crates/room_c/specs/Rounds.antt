@@ -1,10 +1,10 @@
--- pipeline_c's entry plays rounds one after the other on an engine's state, below rooms (`playRounds`). What it
--- leaves is what a list of a room's own calls leaves: pipeline rounds, each going on where the one before it left off,
--- and none behind one that is refused. Assumes nothing: it is proved in proofs/Rounding.antt.
--- It is so of whatever the entry is handed, since any numbers stand in some `Room`. That room need not be one that an
--- opening and calls lead to: there the entry is more general. It takes a full length that no diameter gives, settings
--- that no opening accepts, and states that no call leaves (`beyond`). With what an accepted opening fixes, and from
--- the state `opened`, it is a room's (`start`), and what holds of every list of calls from an opening holds of it.
+-- RULES 17. pipeline_c's entry plays rounds one after the other on an engine's state, below rooms (`playRounds`). What
+-- it leaves is what a list of a room's own calls leaves: pipeline rounds, each going on where the one before it left
+-- off, and none behind one that is refused. Assumes nothing: it is proved in proofs/Rounding.antt. It is so of
+-- whatever the entry is handed, since any numbers stand in some `Room`. That room need not be one that an opening and
+-- calls lead to: there the entry is more general. It takes a full length that no diameter gives, settings that no
+-- opening accepts, and states that no call leaves (`beyond`). With what an accepted opening fixes, and from the state
+-- `opened`, it is a room's (`start`), and what holds of every list of calls from an opening holds of it.
 use mathlib.Core.Bool.{Bool, not}
 use mathlib.Core.List.{List, [], _∷_}
 use mathlib.Core.Path.{_≡_}

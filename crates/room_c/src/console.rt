@@ -1,5 +1,5 @@
-// The entry for differential runs: a room is opened and called by lent numbers, and what its calls tell goes back as
-// numbers.
+// RULES 17. The entry for differential runs: a room is opened and called by lent numbers, and what its calls tell goes
+// back as numbers.
 //   setup: kind (1 pipeline, every other number capture), transactions, start term, interval, bound, seed, listen
 //     timeout, repeats (its low 32 digits), slots of a round, whether these are given
 //   links: a row for each position
@@ -342,8 +342,8 @@ fn put_room(xs: &mut [u64], r: Room)
 
 // ---- the entry
 
-// The opening, then the calls in their order. The answer is the opening's refusal, 0 for none; a refused opening leaves
-// every list as it was.
+// The opening, then the calls in their order. The answer is the opening's refusal, 0 for none; a refused opening
+// leaves every list as it was.
 #[no_mangle]
 pub extern "C" fn room_run(
     setup: &[u64],

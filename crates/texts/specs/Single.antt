@@ -1,6 +1,6 @@
--- RFC 8259 says one thing of a text: no text has two values, and where a value, a number or a string at the front of a
--- text ends is settled by the text. proofs/Single.antt proves it; proofs/Needs.antt proves that the laws on fronts are
--- false without what they ask of the bytes behind. Assumes nothing: these are statements.
+-- RULES 5.3 rests on this: RFC 8259 says one thing of a text: no text has two values, and where a value, a number or a
+-- string at the front of a text ends is settled by the text. proofs/Single.antt proves it; proofs/Needs.antt proves
+-- that the laws on fronts are false without what they ask of the bytes behind. Assumes nothing: these are statements.
 use mathlib.Core.Path.{_≡_}
 use mathlib.Core.Bool.{Bool, true, _&&_, _||_, not}
 use mathlib.Core.List.{List, [], _∷_, _++_}
@@ -26,8 +26,9 @@ abbrev pub noSpace : List ℕ → Bool
 noSpace [] = true
 noSpace (b ∷ r) = not (isSpace b)
 
--- What may stand behind a value that is taken whole: no byte of a number behind a number; no white space behind an array
--- or an object, whose last rule takes white space too; behind all else anything, since it shows by itself where it ends.
+-- What may stand behind a value that is taken whole: no byte of a number behind a number; no white space behind an
+-- array or an object, whose last rule takes white space too; behind all else anything, since it shows by itself where
+-- it ends.
 abbrev pub stops : Tree → List ℕ → Bool
 stops Tree.null r = true
 stops (Tree.bool b) r = true
