@@ -1,5 +1,5 @@
--- A round inside: sets of positions and a table of numbers, and the state of the rules that they show. RULES none: no
--- rule is said here: what is said is what the functions of a round owe each other. Assumes nothing.
+-- A round inside: sets of positions and a table of numbers, and the state of the rules that they show. RULES none: what
+-- is said is what the functions of a round owe each other. Assumes nothing.
 use Prim.Native.Nat.{ℕ, _+_, _*_, _%_, _^_, _≤_, _<_}
 use mathlib.Core.Bool.{Bool, true, false, not, _||_, _&&_}
 use mathlib.Core.List.{List, [], _∷_}

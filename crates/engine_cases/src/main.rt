@@ -6,8 +6,9 @@
 //       before it and step
 //   2 term initiator             a proposal after that term
 //   3 place number               one number of the state, for packets given by hand
-//   4 initiator slots numbers    a round, with room for that many numbers of rows The answer to 4 is the refusal, the
-// first six numbers of the state, recoveries, frames tried and heard, and a digest of the whole state and of the rows.
+//   4 initiator slots numbers    a round, with room for that many numbers of rows
+// The answer to 4 is the refusal, the first six numbers of the state, recoveries, frames tried and heard, and a digest
+// of the whole state and of the rows.
 ghost use Prim.Native.Nat.{_≤_};
 use engines_c::console;
 use engines_c::numbers;

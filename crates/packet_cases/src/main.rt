@@ -6,13 +6,14 @@
 // read.
 //   1 text length                            a capture text and its stated length
 //   2 text length                            a pipeline text
-//   3 data size place numbers                a capture packet of 5 numbers, to be written into a buffer of that size
-// at that place
+//   3 data size place numbers                a capture packet of 5 numbers, to be written at that place of a
+//                                            buffer of that size
 //   4 data size place numbers                a pipeline packet of 12 numbers
-//   5 local received n abort seed position   a merge; the abort probability is told by its bits A text that is read is
-// written again, into a buffer that has one byte before it and one behind. The answer to 1 to 4 is the place behind
-// what was written, and the whole buffer, where a dot is a byte that nobody wrote; or the refusal, and the buffer if
-// it is the writing that was refused. The answer to 5 is 1 if there was news, 0 if not, and the local text afterwards.
+//   5 local received n abort seed position   a merge; the abort probability is told by its bits
+// A text that is read is written again, into a buffer that has one byte before it and one behind. The answer to 1 to 4
+// is the place behind what was written, and the whole buffer, where a dot is a byte that nobody wrote; or the refusal,
+// and the buffer if it is the writing that was refused. The answer to 5 is 1 if there was news, 0 if not, and the local
+// text afterwards.
 ghost use mathlib.Core.Path.{_≡_};
 ghost use Prim.Native.Nat.{_≤_};
 ghost use lib.Ieee.{binary64, nanBits};

@@ -4,10 +4,11 @@
 //   19 transactions generated, from 20 on the slot and from 84 on the round in which each was
 //   148 the records: how many, then each; from 213 on the slot of each transaction's
 //   277 the nodes, 8 numbers each
-//   789 what the positions know, 131 numbers each: entries of the log, the entries, pending, aborts, the votes on each
-// transaction
-//   9173 the packets that they hold, 9 numbers each; 9749 in all A place past the end of the list reads as 0, and
-// nothing is put there. An entry of a log is its transaction, and 256 more if it was committed.
+//   789 what the positions know, 131 numbers each: entries of the log, the entries, pending, aborts, the votes on
+//       each transaction
+//   9173 the packets that they hold, 9 numbers each; 9749 in all
+// A place past the end of the list reads as 0, and nothing is put there. An entry of a log is its transaction, and 256
+// more if it was committed.
 ghost use mathlib.Core.Path.{_≡_};
 ghost use Prim.Native.Nat.{_+_, _*_, _≤_, _<_};
 ghost use lib.Seq.{sets};
