@@ -2,7 +2,7 @@ use Prim.Native.Nat.{_≤_, _-_}
 use lib.ListN.{length}
 use native.Mathlib.Omega.{arith}
 use Rattle.lines.specs.Ends.{Unbroken}
-use Rattle.lines.proofs.Ends.{unbroken-none, unbroken-more, found, none-found}
+use Rattle.lines.proofs.Ends.{unbroken-more, found, none-found}
 use borrow.Author.Needs.{needs}
 use Rattle.lines.proofs.search.line_end.Statement.{statement}
 use Rattle.lines.proofs.search.line_end.Tie as tie
@@ -20,10 +20,17 @@ line-end-spec =
     (tie.spec
     Inv-loop
     μ-loop
-    (λ c. (omega arith, c .pre, unbroken-none (c .args .text .now) (c .args .at)))
+    (λ c κs. search needs)
+    (λ c. c .pass-blocks .ensures)
     (λ c. search needs)
-    (λ c. found (c .before .before .before .before .args .text .now) (c .before .before .before .before .args .at) _ (c .before .before .before .loop .inv .0) (c .before .before .loop-test .taken) (c .before .before .before .loop .inv .2) (c .if1 .taken))
+    (λ c. let a = c .before .before .before .before .before .before .args in
+    let l = c .before .before .before .loop in
+    found (a .text .now) (a .at) (l .i) (l .inv .0) (c .before .before .loop-test .taken) (l .inv .2) (c .if1 .taken))
     (λ c. search needs)
     (λ c. search needs)
-    (λ c. (omega arith, omega arith, unbroken-more (c .before .before .before .before .args .text .now) (c .before .before .before .before .args .at) _ (c .before .before .before .loop .inv .2) (c .if1 .left)))
-    (λ c. none-found (c .before .before .args .text .now) (c .before .before .args .at) _ (c .before .loop .inv .0) (c .before .loop .inv .1) (c .loop-test .left) (c .before .loop .inv .2)))
+    (λ c. let a = c .before .before .before .before .before .before .args in
+    let l = c .before .before .before .loop in
+    (omega arith, omega arith, unbroken-more (a .text .now) (a .at) (l .i) (l .inv .2) (c .if1 .left)))
+    (λ c. let a = c .before .before .before .before .args in
+    let l = c .before .loop in
+    none-found (a .text .now) (a .at) (l .i) (l .inv .0) (l .inv .1) (c .loop-test .left) (l .inv .2)))
