@@ -1018,7 +1018,7 @@ fn times() {
     let capture = |n, t| Frame { transactions: t, span: 10, slots: 400, loss, ..plain(2, 1, n) };
     let pipeline = |n, t| Frame { transactions: t, span: 2, loss, ..plain(1, 1, n) };
     let cases = [
-        ("01's example frame, no words", many(&alpha, 4000, 0, &mut r)),
+        ("the frame ALPHA, no words", many(&alpha, 4000, 0, &mut r)),
         ("capture, mesh of 8, loss 0.3, timeout 10, T 4, 1000 words", many(&capture(8, 4), 300, 1000, &mut r)),
         ("capture, mesh of 16, loss 0.3, timeout 10, T 2, 3740 words", many(&capture(16, 2), 100, 3740, &mut r)),
         ("capture, mesh of 32, loss 0.3, timeout 10, T 1, 3740 words", many(&capture(32, 1), 40, 3740, &mut r)),
