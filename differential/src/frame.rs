@@ -1,5 +1,5 @@
 //! Part `frame`: frame lines through the program `planner`, each listing line compared. The bytes sent are those of the Rust's own rounds, and
-//! refusal 16 is the word that it lacks; the other refusals are document 01's conditions, asked here in the order of their numbers.
+//! refusal 16 is the word that it lacks; the other refusals are the conditions of RULES 15, asked here in the order of their numbers.
 
 use crate::oracle::{caught, config, Capture, PipelineRoom};
 use crate::prng::Prng;
@@ -269,7 +269,7 @@ impl Item {
         format!("{} bytes, {shown:?}", self.line.len())
     }
 
-    /// Its number came out of the Rust's rounds, not of 01's conditions.
+    /// Its number came out of the Rust's rounds, not of the conditions of RULES 15.
     fn is_of_the_rust(&self) -> bool {
         self.refusal == 0 || self.refusal == 16
     }
@@ -948,7 +948,7 @@ pub fn sample() {
     }
     others.truncate(160);
     of_the_rust.truncate(240);
-    println!("# {} numbers of the Rust, {} of 01's conditions", of_the_rust.len(), others.len());
+    println!("# {} numbers of the Rust, {} of the conditions of RULES 15", of_the_rust.len(), others.len());
     let out = std::io::stdout();
     let mut out = out.lock();
     let mut both = vec![others.into_iter(), of_the_rust.into_iter()];
