@@ -3,7 +3,7 @@
        fuzz_lines make SEED LINES | planner | fuzz_lines look SEED LINES
 
    Both ends draw the same lines from the seed. `look` reads each line again by its own reader: as many lines come out as went in; each is `refused` and the number
-   that document 01's conditions 1 to 5 and 7 give, the lowest first, or, where none holds, the frame's own name, a blank and a decimal number, or refused 15 or 16,
+   that the conditions 1 to 5 and 7 of RULES 15 give, the lowest first, or, where none holds, the frame's own name, a blank and a decimal number, or refused 15 or 16,
    or 14 of a pipeline. Timeouts, repeats and round slots may be any: a round of 2^32 - 1 slots takes no longer than one of a hundred. */
 #define _GNU_SOURCE
 #include <stdbool.h>

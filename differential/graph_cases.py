@@ -1,5 +1,5 @@
 #!/usr/bin/env python3
-"""Makes crates/graph_cases/stdin and stdout from the Rust's answers and from document 01's boundary cases.
+"""Makes crates/graph_cases/stdin and stdout from the Rust's answers and from boundary cases worked out by hand.
 
 Usage: differential/run --sample graph | differential/graph_cases.py
 """
@@ -10,7 +10,7 @@ folder = pathlib.Path(__file__).resolve().parent.parent / "crates" / "graph_case
 TOP = str(2**64 - 1)
 MARK_63 = str(2**63)
 
-# Document 01's boundary cases, worked out by hand; src/main.rt says what a question means.
+# Boundary cases of RULES 2.2 and 15, worked out by hand; src/main.rt says what a question means.
 BY_HAND = [
     # refusal 2 comes before 3
     ("2 1 0 0", "2"), ("2 1 65 0", "2"), (f"2 1 {TOP} 0", "2"), ("2 9 65 0", "2"),

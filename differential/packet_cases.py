@@ -32,7 +32,7 @@ def piggyback(tx):
     return f'"piggyback_tx":{tx},'
 
 
-# ---- By hand: texts at the limits and off the grammar, by document 01. Name, text, refusal (0 for none).
+# ---- By hand: texts at the limits and off the grammar, by RULES 5.3 to 5.5. Name, text, refusal (0 for none).
 CAPTURE_TEXTS = [
     ("bitmap of 64", ce(flags=listed(64, "true")), 0),
     ("bitmap of 65", ce(flags=listed(65, "true")), 9),
@@ -174,7 +174,7 @@ def by_hand():
 
 
 def of_text(columns):
-    """A text is read and written again if it is of 01's form, and is then also written from the numbers that the Rust says; else it is refused,
+    """A text is read and written again if it has the form of RULES 5.3, and is then also written from the numbers that the Rust says; else it is refused,
     also where the Rust reads it."""
     head, digits, numbers, data, kind = columns
     family, _, ours = head.split()

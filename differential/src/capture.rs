@@ -1,4 +1,4 @@
-//! Part `capture`: capture rounds on a state of numbers, compared with the Rust's `run_ce_round` after every slot. What 01 adds to the
+//! Part `capture`: capture rounds on a state of numbers, compared with the Rust's `run_ce_round` after every slot. What the rules add to the
 //! Rust (bytes sent, the progress raise, refusals) is computed here beside it.
 #![cfg_attr(not(feature = "engines"), allow(dead_code))]
 
@@ -95,7 +95,7 @@ pub fn payload_text(x: &[u64]) -> Vec<u8> {
     }
 }
 
-/// What a position sends: 01's engine holds no bytes of a text that nobody reads, and a room never holds one.
+/// What a position sends: our engine holds no bytes of a text that nobody reads, and a room never holds one.
 fn sent_len(payload: &[u8]) -> u64 {
     if serde_json::from_slice::<CeTwoPcPacket>(payload).is_ok() {
         payload.len() as u64
@@ -170,7 +170,7 @@ mod sampled {
             state_numbers(&self.room, self.used, self.cursor, self.goal)
         }
 
-        /// One round into a buffer of so many numbers, by the Rust and by 01's refusals; the answer is printed.
+        /// One round into a buffer of so many numbers, by the Rust and by the refusals of RULES 15; the answer is printed.
         fn round(&mut self, slots: u64, numbers: usize) {
             println!("< 4 {} {slots} {numbers}", self.room.initiator);
             let mut rows = vec![UNUSED; BUFFER];
@@ -196,7 +196,7 @@ mod sampled {
                 return Err(17);
             }
             rows[at..][..due.len()].copy_from_slice(&due);
-            // 01's bytes sent: every flooding position of a slot whose goal test failed
+            // Bytes sent (RULES 8.6): every flooding position of a slot whose goal test failed
             let last = end - self.room.slot - u64::from(goal);
             for k in 0..last {
                 let before = self.room.run(k, &mut ChaCha8Rng::of_words(&self.words, self.cursor)).2;
@@ -864,7 +864,7 @@ mod compared {
         }
     }
 
-    /// The Rust's room after an accepted round, with 01's bytes and 01's raise on both sides.
+    /// The Rust's room after an accepted round, with bytes sent and the progress raise (RULES 8.6, 8.9) on both sides.
     fn close(room: &mut Capture, ran: Ran, state: &mut [u64]) {
         room.nodes = ran.nodes;
         room.metrics.ce_timeouts = ran.metrics[2];

@@ -1,5 +1,5 @@
 //! Part `frame`: frame lines through the program `planner`, each listing line compared. The bytes sent are those of the Rust's own rounds, and
-//! refusal 16 is the word that it lacks; the other refusals are document 01's conditions, asked here in the order of their numbers.
+//! refusal 16 is the word that it lacks; the other refusals are the conditions of RULES 15, asked here in the order of their numbers.
 
 use crate::oracle::{caught, config, Capture, PipelineRoom};
 use crate::prng::Prng;
@@ -269,7 +269,7 @@ impl Item {
         format!("{} bytes, {shown:?}", self.line.len())
     }
 
-    /// Its number came out of the Rust's rounds, not of 01's conditions.
+    /// Its number came out of the Rust's rounds, not of the conditions of RULES 15.
     fn is_of_the_rust(&self) -> bool {
         self.refusal == 0 || self.refusal == 16
     }
@@ -948,7 +948,7 @@ pub fn sample() {
     }
     others.truncate(160);
     of_the_rust.truncate(240);
-    println!("# {} numbers of the Rust, {} of 01's conditions", of_the_rust.len(), others.len());
+    println!("# {} numbers of the Rust, {} of the conditions of RULES 15", of_the_rust.len(), others.len());
     let out = std::io::stdout();
     let mut out = out.lock();
     let mut both = vec![others.into_iter(), of_the_rust.into_iter()];
@@ -1018,7 +1018,7 @@ fn times() {
     let capture = |n, t| Frame { transactions: t, span: 10, slots: 400, loss, ..plain(2, 1, n) };
     let pipeline = |n, t| Frame { transactions: t, span: 2, loss, ..plain(1, 1, n) };
     let cases = [
-        ("01's example frame, no words", many(&alpha, 4000, 0, &mut r)),
+        ("the frame ALPHA, no words", many(&alpha, 4000, 0, &mut r)),
         ("capture, mesh of 8, loss 0.3, timeout 10, T 4, 1000 words", many(&capture(8, 4), 300, 1000, &mut r)),
         ("capture, mesh of 16, loss 0.3, timeout 10, T 2, 3740 words", many(&capture(16, 2), 100, 3740, &mut r)),
         ("capture, mesh of 32, loss 0.3, timeout 10, T 1, 3740 words", many(&capture(32, 1), 40, 3740, &mut r)),

@@ -1,5 +1,5 @@
 //! Part `graph`: neighbours, diameter, builders. The Rust's `neighbors` and `diameter` are the oracle; the refusals
-//! are 01's.
+//! are those of RULES 15.
 
 use crate::oracle::{graph_of_rows, rows_of_graph};
 use crate::prng::Prng;

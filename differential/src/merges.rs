@@ -47,7 +47,7 @@ fn packet(r: &mut Prng, n: usize, position: usize, term: u64) -> CeTwoPcPacket {
     }
 }
 
-/// A text that nobody reads: what the Rust reads beyond 01's form is a listed difference and no merge case.
+/// A text that nobody reads: what the Rust reads beyond RULES 5.3 is a listed difference and no merge case.
 fn unreadable(r: &mut Prng, text: Vec<u8>) -> Vec<u8> {
     loop {
         let mut t = text.clone();
@@ -246,7 +246,7 @@ mod compared {
         (refusal, news, len, buffer)
     }
 
-    /// What 01 makes of the Rust's answer: the new text over the local one, if it fits.
+    /// What RULES 6.8 makes of the Rust's answer: the new text over the local one, if it fits.
     fn due(c: &Call) -> Handed {
         let same = |refusal, news| (refusal, news, c.len, c.buffer.to_vec());
         if c.n == 0 || c.n > 64 {

@@ -1,5 +1,5 @@
 //! The original program, driven with a given list of words: graphs of any links, merges, capture rounds, identical
-//! floods, pipeline rounds. What 01 adds to the Rust (bytes sent, the progress raise of a capture room) is added
+//! floods, pipeline rounds. What the rules add to the Rust (bytes sent, the progress raise of a capture room) is added
 //! here, beside it, and marked so.
 
 use ctsim::config::{CeConfig, CiConfig, NetworkConfig, SimConfig};
@@ -64,7 +64,7 @@ pub fn rows_of_graph(g: &NetworkGraph) -> Vec<u64> {
         .collect()
 }
 
-/// The positions that i reaches, by the Rust's neighbours. 01: i reaches itself.
+/// The positions that i reaches, by the Rust's neighbours. A position reaches itself (RULES 2.3).
 pub fn reached(g: &NetworkGraph, i: usize) -> Vec<bool> {
     let mut seen = vec![false; g.num_nodes()];
     seen[i] = true;
@@ -165,9 +165,9 @@ pub struct Capture {
     pub next_row: u64,
     pub slot: u64,
     pub initiator: usize,
-    /// 01's: the present term's goal was reached in an earlier round.
+    /// Ours (RULES 8.9): the present term's goal was reached in an earlier round.
     pub term_done: bool,
-    /// 01's: bytes sent over all rounds.
+    /// Ours (RULES 7.5): bytes sent over all rounds.
     pub bytes: u64,
 }
 
@@ -279,7 +279,7 @@ impl Capture {
         Some(Ok(()))
     }
 
-    /// The room after a round. 01's bytes sent: every flooding position of a slot whose goal test failed (`acted`).
+    /// The room after a round. Bytes sent (RULES 8.6): every flooding position of a slot whose goal test failed (`acted`).
     fn settle(&mut self, after: (u64, bool, Vec<Node>, MetricsCollector, u64), acted: &[Vec<Node>]) {
         let goal = after.1;
         for node in acted.iter().flatten() {
@@ -288,7 +288,7 @@ impl Capture {
             }
         }
         (self.slot, _, self.nodes, self.metrics, self.next_row) = after;
-        // 01's raise: the first round of a term that reaches the goal.
+        // The progress raise (RULES 8.9): the first round of a term that reaches the goal.
         if goal && !self.term_done {
             self.term_done = true;
             for node in &mut self.nodes {
@@ -379,7 +379,7 @@ pub struct PipelineRoom {
     pub door: Box<dyn Pipeline>,
     pub rounds: u64,
     pub stopped: bool,
-    /// 01's: bytes sent over all rounds.
+    /// Ours (RULES 7.5): bytes sent over all rounds.
     pub bytes: u64,
 }
 
@@ -410,7 +410,7 @@ impl PipelineRoom {
             let length = self.core.nodes[self.core.initiator()].payload.len() as u64;
             let before = self.floods();
             self.core.flood_identical();
-            // 01's bytes sent: every flooder sends the initiator's payload.
+            // Bytes sent (RULES 7.5): every flooder sends the initiator's payload.
             self.bytes += (self.floods() - before) * length;
             self.door.process_round(&mut self.core);
             self.rounds += 1;

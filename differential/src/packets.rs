@@ -806,14 +806,14 @@ fn print_counts(counts: &Counts) {
     for ((family, kind), [texts, read, due]) in counts {
         if read > due {
             println!(
-                "packets: {family}, {kind}: {texts} texts, the Rust reads {read}, of these {} outside 01's form",
+                "packets: {family}, {kind}: {texts} texts, the Rust reads {read}, of these {} outside the form of RULES 5.3",
                 read - due
             );
         }
     }
     let sum = |i: usize| counts.values().map(|c| c[i]).sum::<u64>();
     println!(
-        "packets: {} texts in all, the Rust reads {}, of these {} outside 01's form (to be refused)",
+        "packets: {} texts in all, the Rust reads {}, of these {} outside the form of RULES 5.3 (to be refused)",
         sum(0),
         sum(1),
         sum(1) - sum(2)
@@ -882,8 +882,8 @@ fn sample_of<F: Family, G: Family>(r: &mut Prng) {
 pub fn sample() {
     let mut r = Prng::of(0, "sample packets");
     println!("# The Rust: {}", ctsim::SOURCE);
-    println!("# family (1 capture, 2 pipeline), whether the Rust reads the text, whether it is 01's form");
-    println!("# | the text in hexadecimal | if it is 01's form: its numbers | its data bytes | what kind of text");
+    println!("# family (1 capture, 2 pipeline), whether the Rust reads the text, whether it has the form of RULES 5.3");
+    println!("# | the text in hexadecimal | if it has that form: its numbers | its data bytes | what kind of text");
     sample_of::<Ce, Pipe>(&mut r);
     sample_of::<Pipe, Ce>(&mut r);
 }

@@ -33,7 +33,7 @@ impl Case {
         graph_of_rows(&self.links)
     }
 
-    /// 01's full length of a flood, from the Rust's diameter.
+    /// The full length of a flood (RULES 9.1), from the Rust's diameter.
     pub fn length(&self) -> u64 {
         let reckoned = (self.graph().diameter() as u64 + 2) * self.repeats as u64;
         self.slots.unwrap_or(reckoned.max(3))
@@ -398,7 +398,7 @@ impl Question {
         numbers.map(|x| x.to_string()).join(" ")
     }
 
-    /// The refusal that 01 gives to the next round, if the Rust would not lack a word in it.
+    /// The refusal that RULES 15 gives to the next round, if the Rust would not lack a word in it.
     fn refusal(&self, room: &PipelineRoom, length: u64) -> u64 {
         let slot = room.core.current_slot;
         if room.stopped || slot >= self.bound {
@@ -410,7 +410,7 @@ impl Question {
         0
     }
 
-    /// Rows that the buffer has no room for: 01's refusal 17.
+    /// Rows that the buffer has no room for: refusal 17.
     fn is_over(&self, rows: u64) -> bool {
         self.used + rows > self.buffer as u64 / 5
     }
@@ -488,7 +488,7 @@ impl Question {
     }
 }
 
-/// 01's cases and traps, and READINGS' smallest inputs.
+/// Worked cases (RULES 10.14, 11.12), traps, and smallest inputs where a rule is easily read wrong.
 fn sample_cases() -> Vec<(&'static str, Question)> {
     let q = Question::plain;
     let half = (1, 2, 0);

@@ -1,6 +1,6 @@
 //! Part `room`: rooms of both kinds, opened and called by lists of calls, refused ones among them, and compared after
 //! every call with the Rust's rooms: the whole account, and every reading. What is due is reckoned here, from the
-//! Rust's rooms; what 01 adds to the Rust (refusals, bytes sent, the progress raise) beside them and in oracle.rs.
+//! Rust's rooms; what the rules add to the Rust (refusals, bytes sent, the progress raise) beside them and in oracle.rs.
 //! The comparisons are in room/compared.rs.
 #![cfg_attr(not(feature = "room"), allow(dead_code))]
 
@@ -170,7 +170,7 @@ impl Setup {
         ]
     }
 
-    /// All conditions of 01 for a refused opening that hold.
+    /// All conditions of RULES 15 for a refused opening that hold.
     fn refusals(&self) -> Vec<u64> {
         let n = self.n();
         let size = (1..=64).contains(&n);
@@ -299,7 +299,7 @@ impl<'a> Side<'a> {
         }
     }
 
-    /// 01's conditions for this call that hold in the present state, but for 16 and the rows of 17. A text is to be
+    /// The conditions of RULES 15 for this call that hold in the present state, but for 16 and the rows of 17. A text is to be
     /// written to a buffer of so many bytes.
     fn refusals(&self, c: &Call, text: usize) -> Vec<u64> {
         let mut k = Vec::new();
@@ -506,7 +506,7 @@ impl<'a> Side<'a> {
             (17, Theirs::Capture { room, .. }) => Said::one(match room.outcome() {
                 ProposalOutcome::Committed => 1,
                 ProposalOutcome::Aborted => 2,
-                ProposalOutcome::TimedOut => unreachable!("not by 01, nor by two_pc_ce.rs"),
+                ProposalOutcome::TimedOut => unreachable!("not by RULES 6.7, nor by two_pc_ce.rs"),
             }),
             _ => unreachable!(),
         }

@@ -201,7 +201,7 @@ fn merge_facts(c: &mut Checks, seed: u64) {
             c.is("Redundant never rewrites local", after, case.local);
             continue;
         }
-        c.is("what a merge writes is 01's form", Ce::due(&after).0.is_some(), true);
+        c.is("what a merge writes has the form of RULES 5.3", Ce::due(&after).0.is_some(), true);
         let (a, rec) = (read(&after).unwrap(), read(&case.received).unwrap());
         c.is("the bitmap has n entries or more", a.flags_bitmap.len() >= case.n, true);
         c.is("the own entry is marked", a.flags_bitmap[case.position], true);

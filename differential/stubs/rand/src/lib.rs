@@ -1,4 +1,4 @@
-//! A `rand` of our own: what the original program uses of rand 0.8, with 01's draws ("Words").
+//! A `rand` of our own: what the original program uses of rand 0.8, with the draws of RULES 3.2.
 //! Each draw takes one word w: unit floor(w / 2^11) / 2^53, coin w < 2^63, pick from 0 to i w mod (i + 1).
 
 use std::ops::{Range, RangeInclusive};
@@ -56,9 +56,9 @@ pub trait Rng: RngCore {
         T::of_word(self.next_u64())
     }
 
-    /// 01 knows one coin, the fair one.
+    /// RULES 3.2 knows one coin, the fair one.
     fn gen_bool(&mut self, p: f64) -> bool {
-        assert!(p == 0.5, "01 has a fair coin and no other");
+        assert!(p == 0.5, "RULES 3.2 has a fair coin and no other");
         self.gen::<bool>()
     }
 

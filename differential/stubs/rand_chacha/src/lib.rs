@@ -1,4 +1,4 @@
-//! A `rand_chacha` of our own: `ChaCha8Rng` is 01's list of words and its cursor.
+//! A `rand_chacha` of our own: `ChaCha8Rng` is a lent list of words and its cursor (RULES 3.1).
 
 use rand::{RngCore, SeedableRng};
 use std::cell::{Cell, RefCell};
