@@ -1,14 +1,37 @@
--- Late frames: every packet that is ever held is sound.
+-- Late frames: every packet that is ever held is sound, whatever the votes; and so in a room.
 -- Assumes nothing.
-use mathlib.Core.Path.{_≡_, subst}
+use mathlib.Core.Path.{_≡_, refl, sym, ap, _∙_, subst}
+use mathlib.Core.Bool.{Bool, true, false}
 use mathlib.Core.List.{List, [], _∷_}
 use Prim.Native.Nat.{ℕ, zero, suc, _<_}
-use lib.Dec.{ltb}
+use native.Mathlib.Omega.{arith}
+use lib.Dec.{ltb, eqb}
 use lib.ListN.{getD, set, replicate}
-use borrow.Author.Tests.{ltb-true}
+use borrow.Author.Tests.{ltb-true, le-ltb}
+use Rattle.limits.specs.Limits.{lastTerm}
+use Rattle.loops.specs.Pick.{either}
+use Rattle.merges.specs.Votes.{noOf}
 use Rattle.merges.specs.Merging.{Noes, mergeOf, proposalOf, noPayload}
 use Rattle.merges.specs.Sound.{SoundBy, SoundHeld}
-use Rattle.merges.specs.Late.{Moment, opening, Event, Propose, Deliver, History, heldAt, happened, after, history, LateFrames}
+use Rattle.merges.specs.Late.{
+  Moment,
+  opening,
+  Event,
+  Propose,
+  Deliver,
+  History,
+  heldAt,
+  happened,
+  after,
+  history,
+  LateFrames,
+  happenedIn,
+  historyIn,
+  EverHeld,
+  LateInRoom,
+}
+use Rattle.packets.specs.declared.TwoPcPhase.the-variants.{Committed, Aborted}
+use Rattle.merges.specs.declared.votes.Voting.{Voting}
 use Rattle.merges.specs.declared.merging.Held.the-variants.{Packet}
 use Rattle.merges.specs.declared.merging.Payload.{Payload}
 use Rattle.merges.proofs.Safety.{either-cases, merges-sound, proposes-sound, never-both}
@@ -68,3 +91,41 @@ late-frames nay n t es m u k w hp hq e cp aq =
     never-both nay n (heldAt h m u .packet) (heldAt h k w .packet)
     (subst (SoundBy nay n (heldAt h m u .packet)) hp (ever-sound nay n t es m u))
     (subst (SoundBy nay n (heldAt h k w .packet)) hq (ever-sound nay n t es k w)) e cp aq
+
+-- ---- in a room: what is refused there is here an event of a position that is none, so that a room's list is a list
+-- of the general law
+nobody-proposes : (nay : Noes) (n : ℕ) (h : History) (a : Moment) → happened nay n (Propose n) h a ≡ a
+unfolding happened
+nobody-proposes nay n h a = rw (le-ltb n n (omega arith))
+
+module _ (s : Voting) where
+  abbrev SameEvent : Event → History → Moment → Type 0
+  SameEvent e h a = (d : Event) × (happenedIn s e h a ≡ happened (noOf s) (s .n) d h a)
+
+  same-event : (e : Event) (h : History) (a : Moment) → SameEvent e h a
+  unfolding happenedIn
+  same-event (Propose v) h a = by (eqb (a .term) lastTerm)
+    where
+      by : (b : Bool) → (d : Event) × (either b a (happened (noOf s) (s .n) (Propose v) h a) ≡ happened (noOf s) (s .n) d h a)
+      by true = (Propose (s .n), sym (nobody-proposes (noOf s) (s .n) h a))
+      by false = (Propose v, refl)
+  same-event (Deliver v m u) h a = (Deliver v m u, refl)
+
+  pub same-history : (es : List Event) (h : History) → (ds : List Event) × (historyIn s es h ≡ history (noOf s) (s .n) ds h)
+  unfolding historyIn history after
+  same-history [] h = ([], refl)
+  same-history (e ∷ es) [] = ([], refl)
+  same-history (e ∷ es) (a ∷ h) =
+      let d = same-event e (a ∷ h) a in
+      let r = same-history es (happened (noOf s) (s .n) (d .0) (a ∷ h) a ∷ a ∷ h) in
+      (d .0 ∷ r .0, ap (λ (x : Moment). historyIn s es (x ∷ a ∷ h)) (d .1) ∙ r .1)
+
+pub late-in-room : LateInRoom
+late-in-room s t es p q =
+    let r = same-history s es (opening (s .n) t ∷ []) in
+    subst (λ (h : History). EverHeld h p → EverHeld h q → p .term ≡ q .term → p .phase ≡ Committed → q .phase ≡ Aborted → ⊥) (sym (r .1))
+    (λ x y e cp aq. late-frames (noOf s) (s .n) t (r .0) (x .0) (x .1) (y .0) (y .1)
+    (ap (λ (l : Payload). l .held) (x .2)) (ap (λ (l : Payload). l .held) (y .2))
+    (ap (λ (l : Payload). l .packet .term) (x .2) ∙ e ∙ sym (ap (λ (l : Payload). l .packet .term) (y .2)))
+    (ap (λ (l : Payload). l .packet .phase) (x .2) ∙ cp)
+    (ap (λ (l : Payload). l .packet .phase) (y .2) ∙ aq))
