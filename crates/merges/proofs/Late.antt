@@ -36,6 +36,15 @@ use Rattle.merges.specs.declared.merging.Held.the-variants.{Packet}
 use Rattle.merges.specs.declared.merging.Payload.{Payload}
 use Rattle.merges.proofs.Safety.{either-cases, merges-sound, proposes-sound, never-both}
 
+-- what holds of every item of a list, and of what is put there, holds of every item afterwards
+pub set-all : {A : Type 0} (P : A → Type 0) (d : A) (l : List A) (i : ℕ) (a : A) → ((j : ℕ) → P (getD l j d)) → P a
+    → (j : ℕ) → P (getD (set l i a) j d)
+set-all P d [] i a h p j = h j
+set-all P d (x ∷ l) zero a h p zero = p
+set-all P d (x ∷ l) zero a h p (suc j) = h (suc j)
+set-all P d (x ∷ l) (suc i) a h p zero = h zero
+set-all P d (x ∷ l) (suc i) a h p (suc j) = set-all P d l i a (λ k. h (suc k)) p j
+
 module _ (nay : Noes) (n : ℕ) where
   abbrev pub SoundAll : List Payload → Type 0
   SoundAll l = (u : ℕ) → SoundHeld nay n (getD l u noPayload)
@@ -45,13 +54,6 @@ module _ (nay : Noes) (n : ℕ) where
   nobody-sound (suc k) zero = tt
   nobody-sound (suc k) (suc u) = nobody-sound k u
 
-  pub set-sound : (l : List Payload) (v : ℕ) (o : Payload) → SoundAll l → SoundHeld nay n o → SoundAll (set l v o)
-  set-sound [] v o h s u = tt
-  set-sound (x ∷ l) zero o h s zero = s
-  set-sound (x ∷ l) zero o h s (suc u) = h (suc u)
-  set-sound (x ∷ l) (suc v) o h s zero = h zero
-  set-sound (x ∷ l) (suc v) o h s (suc u) = set-sound l v o (λ w. h (suc w)) s u
-
   abbrev Past : History → Type 0
   Past h = (m : ℕ) → SoundAll (getD h m (opening 0 0) .held)
 
@@ -59,12 +61,12 @@ module _ (nay : Noes) (n : ℕ) where
   unfolding happened
   happened-sound (Propose v) h a p s =
       either-cases (λ (b : Moment). SoundAll (b .held)) (ltb v n)
-      (λ t. set-sound (replicate n noPayload) v (record { held = Packet; packet = proposalOf nay n v (a .term) }) (nobody-sound n)
+      (λ t. set-all (SoundHeld nay n) noPayload (replicate n noPayload) v (record { held = Packet; packet = proposalOf nay n v (a .term) }) (nobody-sound n)
       (proposes-sound nay n v (a .term) (ltb-true v n t)))
       (λ t. s)
   happened-sound (Deliver v m w) h a p s =
       either-cases (λ (b : Moment). SoundAll (b .held)) (ltb v n)
-      (λ t. set-sound (a .held) v (mergeOf nay n v (getD (a .held) v noPayload) (heldAt h m w) .payload) s
+      (λ t. set-all (SoundHeld nay n) noPayload (a .held) v (mergeOf nay n v (getD (a .held) v noPayload) (heldAt h m w) .payload) s
       (merges-sound nay n v (getD (a .held) v noPayload) (heldAt h m w) (ltb-true v n t) (s v) (p m w)))
       (λ t. s)
 
