@@ -560,6 +560,22 @@ mod compared {
         merged_by(s, v, &local, held, received)
     }
 
+    /// Votes are asked for under another seed than the proposals'.
+    fn other_votes(s: &Settings, v: usize, buffer: &[u8], len: u64, received: &[u8]) -> Handed {
+        let sizes = s.sizes.clone();
+        merged_by(
+            &Settings {
+                seed: s.seed ^ 1,
+                sizes,
+                ..*s
+            },
+            v,
+            buffer,
+            len,
+            received,
+        )
+    }
+
     /// That the test of the promise can fail: lists under a wrong merge, and how many of them break it.
     fn wrong(t: &mut Tally, r: &mut Prng, name: &str, merge: fn(&Settings, usize, &[u8], u64, &[u8]) -> Handed) {
         let calls = Calls {
@@ -608,6 +624,12 @@ mod compared {
             &mut r,
             "a wrong merge, a copy in Prepare takes a decision back",
             copy_reopens,
+        );
+        wrong(
+            &mut t,
+            &mut r,
+            "a wrong merge, votes under another seed than the proposals'",
+            other_votes,
         );
         t
     }

@@ -33,7 +33,13 @@ merge-table = (
   (refl, refl, refl),
   (refl, refl, refl, refl, refl, refl),
   (refl, refl, refl, refl, refl, refl, refl),
-  (((refl, refl, refl), (refl, refl, refl), (refl, refl, refl)), ((refl, refl, refl), refl, (refl, refl, refl)), ((refl, refl, refl), (refl, refl, refl)), refl),
+  (
+    ((refl, refl, refl), (refl, refl, refl), (refl, refl, refl)),
+    ((refl, refl, refl), refl, (refl, refl, refl)),
+    ((refl, refl, refl), (refl, refl, refl)),
+    ((refl, refl, refl), (refl, refl, refl), (refl, refl, refl)),
+    refl,
+  ),
 )
 
 -- what lies above 0 is not at most 0
