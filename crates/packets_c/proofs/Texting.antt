@@ -22,7 +22,7 @@ use Rattle.packets.specs.Writing.{refused, wroteOf, leftOf}
 use Rattle.merges.specs.Votes.{noOf}
 use Rattle.merges.specs.Merging.{Noes, sameTermOf, outdated, heardOf, mergedBy, mergeOf, readAs, payloadOf, proposalOf}
 use Rattle.merges.specs.Sound.{ValidHeld}
-use Rattle.packets_c.specs.Desk.{refusalOf, Desk, rewritten, answered, deskOf, proposeRefusal, proposedOf, proposedLeft, TextsFollow, ProposalFollows, CopyReads, Refusals}
+use Rattle.packets_c.specs.Desk.{refusalOf, Desk, rewritten, answered, deskOf, proposeRefusal, proposedOf, proposedLeft, TextsFollow, ProposalFollows, CopyReads, AmpleMerges, AmpleProposes, Refusals}
 use Rattle.packets.specs.declared.CeTwoPcPacket.{CeTwoPcPacket}
 use Rattle.packets.specs.declared.CeRead.{CeRead}
 use Rattle.packets.specs.declared.Wrote.{Wrote}
@@ -272,6 +272,39 @@ unfolding proposedOf proposedLeft
 proposal-follows s v t buf =
     offered-follows (proposalOf (noOf s) (s .n) v t) buf (proposeRefusal (s .n) v t)
     (λ k. proposes-valid (noOf s) (s .n) v t (may-propose (s .n) v t k .0))
+
+-- ---- a buffer with room for every text
+room-enough : (p : CeTwoPcPacket) → ValidCe p → (d : List ℕ) → 596 ≤ length d → leb (0 + length (ceText p)) (length d) ≡ true
+room-enough p s d h = le-leb (0 + length (ceText p)) (length d) (omega (arith, ce-promises .short p s))
+
+module _ (s : Voting) (v : ℕ) (local : List ℕ) (len : ℕ) (received : List ℕ) (rlen was : ℕ) where
+  answered-ample : s .n ≤ 64 → 596 ≤ length local → (r : MergeResult) → merged s v local len received rlen was .result ≡ r
+      → answered local len was (merged s v local len received rlen was .payload .packet) r .refusal ≡ 0
+  unfolding answered
+  answered-ample h k Redundant e = refl
+  answered-ample h k NewInfo e =
+      let p = merged s v local len received rlen was .payload .packet in
+      let q = valid-news s v local len received rlen was h e in
+      ap (λ (d : Desk). d .refusal) (rewritten-made p q local len was ∙ ap (Made p q local len was) (room-enough p q local k))
+
+pub ample-merges : AmpleMerges
+unfolding deskOf
+ample-merges s v local len received rlen was h =
+    let k = refusalOf (s .n) v (length local) len (length received) rlen in
+    either-cases (λ (d : Desk). d .refusal ≡ k) (eqb k 0)
+    (λ x. answered-ample s v local len received rlen was (allowed (s .n) v (length local) len (length received) rlen (eqb-true k 0 x) .0) h (merged s v local len received rlen was .result) refl
+    ∙ sym (eqb-true k 0 x))
+    (λ x. refl)
+
+pub ample-proposes : AmpleProposes
+unfolding proposedOf wroteOf
+ample-proposes s v t buf h =
+    let k = proposeRefusal (s .n) v t in
+    let p = proposalOf (noOf s) (s .n) v t in
+    either-cases (λ (w : Wrote). w .refusal ≡ k) (eqb k 0)
+    (λ x. let q = proposes-valid (noOf s) (s .n) v t (may-propose (s .n) v t (eqb-true k 0 x) .0) in
+    rw (ce-promises .fits p q, room-enough p q buf h) (sym (eqb-true k 0 x)))
+    (λ x. refl)
 
 -- ---- a copy
 copy-read : (s : List ℕ) (len : ℕ) → ceRead (take len s) len ≡ ceRead s len

@@ -5,7 +5,7 @@ use mathlib.Core.Path.{_≡_}
 use mathlib.Core.Bool.{Bool, true, false, _&&_}
 use mathlib.Core.List.{List}
 use mathlib.Core.Logic.{_⊎_}
-use Prim.Native.Nat.{ℕ}
+use Prim.Native.Nat.{ℕ, _≤_}
 use lib.Dec.{leb, ltb, eqb}
 use lib.Ieee.{Float}
 use lib.ListN.{length, take}
@@ -124,6 +124,17 @@ ProposalFollows =
 -- a copy of a text is read as the text
 abbrev pub CopyReads : Type 0
 CopyReads = (buf : List ℕ) (len : ℕ) → payloadOf (take len buf) len ≡ payloadOf buf len
+
+-- a buffer of 596 bytes has room for every text: then a call is refused by what is tested before any text is read, and
+-- by nothing else
+abbrev pub AmpleMerges : Type 0
+AmpleMerges =
+    (s : Voting) (v : ℕ) (local : List ℕ) (len : ℕ) (received : List ℕ) (rlen was : ℕ) → 596 ≤ length local
+    → deskOf s v local len received rlen was .refusal ≡ refusalOf (s .n) v (length local) len (length received) rlen
+
+abbrev pub AmpleProposes : Type 0
+AmpleProposes =
+    (s : Voting) (v t : ℕ) (buf : List ℕ) → 596 ≤ length buf → proposedOf s v t buf .refusal ≡ proposeRefusal (s .n) v t
 
 -- a call is refused as 2, 8 or 10, and as nothing else: inside a merge, 9 is no refusal
 abbrev pub Refusals : Type 0
