@@ -576,14 +576,13 @@ mod compared {
         )
     }
 
-    /// That the test of the promise can fail: lists under a wrong merge, and how many of them break it.
+    /// That the test of the promise can fail: how many of 500 lists break it under a wrong merge, or of more where these are too few to
+    /// show it.
     fn wrong(t: &mut Tally, r: &mut Prng, name: &str, merge: fn(&Settings, usize, &[u8], u64, &[u8]) -> Handed) {
-        let calls = Calls {
-            propose: their_propose,
-            merge,
-        };
-        let mut broken = 0;
-        for _ in 0..500 {
+        let propose = their_propose;
+        let calls = Calls { propose, merge };
+        let (mut broken, mut lists) = (0, 0);
+        while lists < 500 || (broken == 0 && lists < 20_000) {
             let mut s = settings(r);
             s.sizes.fill(AMPLE);
             let (mut d, mut c) = (Desk::open(&s), course(r));
@@ -592,11 +591,14 @@ mod compared {
                 let (Event::Deliver { to, .. } | Event::Propose(to)) = &mut e;
                 *to %= s.n;
                 d.play(&s, &calls, e);
-                c.sent.push(e);
+                if matches!(e, Event::Deliver { .. }) {
+                    c.sent.push(e);
+                }
             }
+            lists += 1;
             broken += u64::from(!both(&decisions(&d, their_reader)).is_empty());
         }
-        println!("late: {name}: {broken} of 500 lists break the promise");
+        println!("late: {name}: {broken} of {lists} lists break the promise");
         t.same(name, 1, || name.to_string(), &(broken > 0), &true);
     }
 

@@ -1,4 +1,4 @@
--- Late frames, by RULES 11.11: lists of proposals and of deliveries, where a delivery may bring whatever packet was
+-- Late frames, by RULES 11.13: lists of proposals and of deliveries, where a delivery may bring whatever packet was
 -- held somewhere before. `LateFrames` is said for any votes, `LateInRoom` for those of a room.
 -- Assumes nothing: these are definitions and statements, which proofs/Late.antt proves.
 use mathlib.Core.Path.{_≡_}

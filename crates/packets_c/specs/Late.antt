@@ -1,4 +1,4 @@
--- Late frames on lent texts, by RULES 11.11: the lists of merges specs/Late, where each position is a buffer with the
+-- Late frames on lent texts, by RULES 11.13: the lists of merges specs/Late, where each position is a buffer with the
 -- stated length of its text, a proposal is a call of `ce_packet_propose`, and a delivery hands a copy of any earlier
 -- text to `ce_packet_merge`.
 -- Assumes nothing: these are definitions and a statement, which proofs/Late.antt proves.
