@@ -108,12 +108,14 @@ module _ (s : Voting) where
   unfolding happenedIn
   same-event (Propose v) h a = by (eqb (a .term) lastTerm)
     where
-      by : (b : Bool) → (d : Event) × (either b a (happened (noOf s) (s .n) (Propose v) h a) ≡ happened (noOf s) (s .n) d h a)
+      by : (b : Bool)
+          → (d : Event) × (either b a (happened (noOf s) (s .n) (Propose v) h a) ≡ happened (noOf s) (s .n) d h a)
       by true = (Propose (s .n), sym (nobody-proposes (noOf s) (s .n) h a))
       by false = (Propose v, refl)
   same-event (Deliver v m u) h a = (Deliver v m u, refl)
 
-  pub same-history : (es : List Event) (h : History) → (ds : List Event) × (historyIn s es h ≡ history (noOf s) (s .n) ds h)
+  pub same-history : (es : List Event) (h : History)
+      → (ds : List Event) × (historyIn s es h ≡ history (noOf s) (s .n) ds h)
   unfolding historyIn history after
   same-history [] h = ([], refl)
   same-history (e ∷ es) [] = ([], refl)
@@ -125,7 +127,9 @@ module _ (s : Voting) where
 pub late-in-room : LateInRoom
 late-in-room s t es p q =
     let r = same-history s es (opening (s .n) t ∷ []) in
-    subst (λ (h : History). EverHeld h p → EverHeld h q → p .term ≡ q .term → p .phase ≡ Committed → q .phase ≡ Aborted → ⊥) (sym (r .1))
+    subst
+    (λ (h : History). EverHeld h p → EverHeld h q → p .term ≡ q .term → p .phase ≡ Committed → q .phase ≡ Aborted → ⊥)
+    (sym (r .1))
     (λ x y e cp aq. late-frames (noOf s) (s .n) t (r .0) (x .0) (x .1) (y .0) (y .1)
     (ap (λ (l : Payload). l .held) (x .2)) (ap (λ (l : Payload). l .held) (y .2))
     (ap (λ (l : Payload). l .packet .term) (x .2) ∙ e ∙ sym (ap (λ (l : Payload). l .packet .term) (y .2)))

@@ -161,10 +161,16 @@ reopened = Propose 1 ∷ Deliver 0 0 1 ∷ Deliver 1 0 0 ∷ Deliver 1 2 1 ∷ [
 -- and in the last term nobody proposes any more
 abbrev pub LateCopies : Type 0
 LateCopies =
-    (Says 1 Aborted (lateAt 1 0 alone 2 0) × Says 2 Committed (lateAt 1 0 alone 1 0) × Says 2 Committed (lateAt 1 0 alone 0 0))
-    × (Says 1 Aborted (lateAt 2 0 again 3 0) × (lateAt 2 0 again 2 0 ≡ noPayload) × Says 1 Aborted (lateAt 2 0 again 1 0))
+    (Says 1 Aborted (lateAt 1 0 alone 2 0)
+    × Says 2 Committed (lateAt 1 0 alone 1 0)
+    × Says 2 Committed (lateAt 1 0 alone 0 0))
+    × (Says 1 Aborted (lateAt 2 0 again 3 0)
+    × (lateAt 2 0 again 2 0 ≡ noPayload)
+    × Says 1 Aborted (lateAt 2 0 again 1 0))
     × (Says 2 Committed (lateAt 2 0 again 0 0) × Says 2 Prepare (lateAt 2 0 again 0 1))
-    × (Says 1 Prepare (lateAt 2 0 reopened 3 1) × Says 1 Aborted (lateAt 2 0 reopened 1 1) × Says 1 Aborted (lateAt 2 0 reopened 0 1))
+    × (Says 1 Prepare (lateAt 2 0 reopened 3 1)
+    × Says 1 Aborted (lateAt 2 0 reopened 1 1)
+    × Says 1 Aborted (lateAt 2 0 reopened 0 1))
     × (lateAt 2 lastTerm (Propose 0 ∷ []) 0 0 ≡ noPayload)
 
 abbrev pub MergeTable : Type 0

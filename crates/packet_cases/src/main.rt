@@ -1,10 +1,10 @@
 // RULES none. Reads packet texts, writes and merges them, and proposes, by the entries for C, and prints the answers;
-// the file `stdout` holds the Rust's answers to the same questions. Both files are made by differential/packet_cases.py
-// from three samples (`differential/run --sample` with packets, merge and late), which adds the cases at the limits, off
-// the grammar and of buffers that are too small. The sample late is of lists of proposals and deliveries: each event is
-// a question 6 or 5, with the texts that the Rust had then. A line is words with single blanks between them: numbers in
-// decimal; texts and data in hexadecimal, - for an empty one. What stands behind the words of a question is a note, and
-// is not read.
+// the file `stdout` holds the Rust's answers to the same questions. Both files are made by
+// differential/packet_cases.py from three samples (`differential/run --sample` with packets, merge and late); it adds
+// the cases at the limits, off the grammar and of buffers that are too small. The sample late is of lists of proposals
+// and deliveries: each event is a question 6 or 5, with the texts that the Rust had then. A line is words with single
+// blanks between them: numbers in decimal; texts and data in hexadecimal, - for an empty one. What stands behind the
+// words of a question is a note, and is not read.
 //   1 text length                            a capture text and its stated length
 //   2 text length                            a pipeline text
 //   3 data size place numbers                a capture packet of 5 numbers, to be written at that place of a

@@ -13,16 +13,38 @@ use Rattle.merges.specs.Merging.{payloadOf}
 use Rattle.merges.specs.Sound.{SoundHeld}
 use Rattle.merges.specs.Late.{Event, Propose, Deliver}
 use Rattle.packets_c.specs.Desk.{deskOf, proposedOf, proposedLeft}
-use Rattle.packets_c.specs.Late.{Place, emptied, noPlace, Moment, opening, History, placeAt, proposing, merging, happened, history, LateTexts}
+use Rattle.packets_c.specs.Late.{
+  Place,
+  emptied,
+  noPlace,
+  Moment,
+  opening,
+  History,
+  placeAt,
+  proposed,
+  proposing,
+  merging,
+  happened,
+  history,
+  readOf,
+  LateTexts,
+}
 use Rattle.merges.specs.declared.votes.Voting.{Voting}
 use Rattle.merges.proofs.Safety.{either-cases, merges-sound, proposes-sound, never-both}
 use Rattle.merges.proofs.Late.{set-all}
 use Rattle.packets_c.proofs.Desks.{refused-leaves}
-use Rattle.packets_c.proofs.Texting.{texts-follow, proposal-follows, copy-reads, may-propose, accepted-proposal, accepted-merge}
+use Rattle.packets_c.proofs.Texting.{
+  texts-follow,
+  proposal-follows,
+  copy-reads,
+  may-propose,
+  accepted-proposal,
+  accepted-merge,
+}
 
 module _ (s : Voting) where
   abbrev SoundPlace : Place → Type 0
-  SoundPlace x = SoundHeld (noOf s) (s .n) (payloadOf (x .buffer) (x .len))
+  SoundPlace x = SoundHeld (noOf s) (s .n) (readOf x)
 
   abbrev SoundAll : List Place → Type 0
   SoundAll l = (u : ℕ) → SoundPlace (getD l u noPlace)
@@ -42,42 +64,52 @@ module _ (s : Voting) where
   emptied-sound (x ∷ l) (suc u) = emptied-sound l u
 
   -- ---- one event
-  proposal-sound : (v t : ℕ) (buf : List ℕ) → proposedOf s v t buf .refusal ≡ 0
-      → SoundPlace (record { buffer = proposedLeft s v t buf; len = proposedOf s v t buf .next })
-  proposal-sound v t buf k =
-      subst (SoundHeld (noOf s) (s .n)) (sym (proposal-follows s v t buf k))
-      (proposes-sound (noOf s) (s .n) v t (may-propose (s .n) v t (accepted-proposal s v t buf k) .1))
+  proposal-sound : (v t : ℕ) (l : Place) → proposedOf s v t (l .buffer) .refusal ≡ 0 → SoundPlace (proposed s v t l)
+  proposal-sound v t l k =
+      subst (SoundHeld (noOf s) (s .n)) (sym (proposal-follows s v t (l .buffer) k))
+      (proposes-sound (noOf s) (s .n) v t (may-propose (s .n) v t (accepted-proposal s v t (l .buffer) k) .1))
 
-  merging-sound : (v : ℕ) (l r : Place) → SoundPlace l → SoundPlace r → SoundPlace (merging s v l r)
-  merging-sound v l r p q = by (eqb (deskOf s v (l .buffer) (l .len) (take (r .len) (r .buffer)) (r .len) 0 .refusal) 0) refl
-    where
-      copied : SoundHeld (noOf s) (s .n) (payloadOf (take (r .len) (r .buffer)) (r .len))
-      copied = subst (SoundHeld (noOf s) (s .n)) (sym (copy-reads (r .buffer) (r .len))) q
+  module _ (v : ℕ) (l r : Place) (p : SoundPlace l) (q : SoundPlace r) where
+    abbrev copy : List ℕ
+    copy = take (r .len) (r .buffer)
 
-      by : (b : Bool) → eqb (deskOf s v (l .buffer) (l .len) (take (r .len) (r .buffer)) (r .len) 0 .refusal) 0 ≡ b
-          → SoundPlace (merging s v l r)
-      by true e =
-          let k = eqb-true (deskOf s v (l .buffer) (l .len) (take (r .len) (r .buffer)) (r .len) 0 .refusal) 0 e in
-          subst (SoundHeld (noOf s) (s .n)) (sym (texts-follow s v (l .buffer) (l .len) (take (r .len) (r .buffer)) (r .len) 0 k))
-          (merges-sound (noOf s) (s .n) v (payloadOf (l .buffer) (l .len)) (payloadOf (take (r .len) (r .buffer)) (r .len))
-          (accepted-merge s v (l .buffer) (l .len) (take (r .len) (r .buffer)) (r .len) 0 k) p copied)
-      by false e =
-          let k = refused-leaves s v (l .buffer) (l .len) (take (r .len) (r .buffer)) (r .len) 0
-          (eqb-false (deskOf s v (l .buffer) (l .len) (take (r .len) (r .buffer)) (r .len) 0 .refusal) 0 e) in
-          subst (SoundHeld (noOf s) (s .n)) (sym (ap₂ payloadOf (k .0) (k .1))) p
+    abbrev refusal : ℕ
+    refusal = deskOf s v (l .buffer) (l .len) copy (r .len) 0 .refusal
+
+    copy-sound : SoundHeld (noOf s) (s .n) (payloadOf copy (r .len))
+    copy-sound = subst (SoundHeld (noOf s) (s .n)) (sym (copy-reads (r .buffer) (r .len))) q
+
+    taken-sound : refusal ≡ 0 → SoundPlace (merging s v l r)
+    taken-sound k =
+        subst (SoundHeld (noOf s) (s .n)) (sym (texts-follow s v (l .buffer) (l .len) copy (r .len) 0 k))
+        (merges-sound (noOf s) (s .n) v (readOf l) (payloadOf copy (r .len))
+        (accepted-merge s v (l .buffer) (l .len) copy (r .len) 0 k) p copy-sound)
+
+    left-sound : (refusal ≡ 0 → ⊥) → SoundPlace (merging s v l r)
+    left-sound k =
+        let kept = refused-leaves s v (l .buffer) (l .len) copy (r .len) 0 k in
+        subst (SoundHeld (noOf s) (s .n)) (sym (ap₂ payloadOf (kept .0) (kept .1))) p
+
+    merging-sound : SoundPlace (merging s v l r)
+    merging-sound = by (eqb refusal 0) refl
+      where
+        by : (b : Bool) → eqb refusal 0 ≡ b → SoundPlace (merging s v l r)
+        by true e = taken-sound (eqb-true refusal 0 e)
+        by false e = left-sound (eqb-false refusal 0 e)
 
   -- ---- all moments
   abbrev Past : History → Type 0
   Past h = (m : ℕ) → SoundAll (getD h m (opening 0 []) .places)
 
-  happened-sound : (e : Event) (h : History) (a : Moment) → Past h → SoundAll (a .places) → SoundAll (happened s e h a .places)
+  happened-sound : (e : Event) (h : History) (a : Moment) → Past h → SoundAll (a .places)
+      → SoundAll (happened s e h a .places)
   unfolding happened
   happened-sound (Propose v) h a p q =
       let l = getD (a .places) v noPlace in
-      either-cases (λ (b : Moment). SoundAll (b .places)) (eqb (proposedOf s v (a .term) (l .buffer) .refusal) 0)
-      (λ e. set-all SoundPlace noPlace (map (λ (x : Place). emptied (x .buffer)) (a .places)) v
-      (record { buffer = proposedLeft s v (a .term) (l .buffer); len = proposedOf s v (a .term) (l .buffer) .next })
-      (emptied-sound (a .places)) (proposal-sound v (a .term) (l .buffer) (eqb-true (proposedOf s v (a .term) (l .buffer) .refusal) 0 e)))
+      let none = proposedOf s v (a .term) (l .buffer) .refusal in
+      either-cases (λ (b : Moment). SoundAll (b .places)) (eqb none 0)
+      (λ e. set-all SoundPlace noPlace (map (λ (x : Place). emptied (x .buffer)) (a .places)) v (proposed s v (a .term) l)
+      (emptied-sound (a .places)) (proposal-sound v (a .term) l (eqb-true none 0 e)))
       (λ e. q)
   happened-sound (Deliver v m u) h a p q =
       set-all SoundPlace noPlace (a .places) v (merging s v (getD (a .places) v noPlace) (placeAt h m u)) q

@@ -15,6 +15,7 @@ use Rattle.packets.specs.declared.TwoPcPhase.the-variants.{Committed, Aborted}
 use Rattle.packets.specs.declared.CeTwoPcPacket.{CeTwoPcPacket}
 use Rattle.merges.specs.declared.votes.Voting.{Voting}
 use Rattle.merges.specs.declared.merging.Held.the-variants.{Packet}
+use Rattle.merges.specs.declared.merging.Payload.{Payload}
 
 -- a position: its buffer, of any size, and how many bytes of it are its text
 pub record Place : Type 0 where
@@ -44,14 +45,17 @@ History = List Moment
 abbrev pub placeAt : History → ℕ → ℕ → Place
 placeAt h m u = getD (getD h m (opening 0 []) .places) u noPlace
 
--- an accepted proposal: its text stands in position v's buffer, and all other positions are empty
+-- the text of position v's proposal after term t stands in its buffer
+abbrev pub proposed : Voting → ℕ → ℕ → Place → Place
+proposed s v t l =
+    record { buffer = proposedLeft s v t (l .buffer); len = proposedOf s v t (l .buffer) .next }
+
+-- .. and all other positions are empty
 abbrev pub proposing : Voting → ℕ → Moment → Place → Moment
 proposing s v a l =
     record {
       term = a .term + 1;
-      places =
-          set (map (λ (x : Place). emptied (x .buffer)) (a .places)) v
-          (record { buffer = proposedLeft s v (a .term) (l .buffer); len = proposedOf s v (a .term) (l .buffer) .next });
+      places = set (map (λ (x : Place). emptied (x .buffer)) (a .places)) v (proposed s v (a .term) l);
     }
 
 -- position v after a call with a copy of the text of r; refused, it is as it was
@@ -79,9 +83,13 @@ history s (e ∷ es) (a ∷ h) = history s es (happened s e (a ∷ h) a ∷ a �
 abbrev pub deskHistory : Voting → ℕ → List (List ℕ) → List Event → History
 deskHistory s t buffers es = history s es (opening t buffers ∷ [])
 
+-- what the text of a position is read as
+abbrev pub readOf : Place → Payload
+readOf x = payloadOf (x .buffer) (x .len)
+
 -- the text of some position at some moment is read as the packet p
 abbrev pub EverRead : History → CeTwoPcPacket → Type 0
-EverRead h p = (m : ℕ) × (u : ℕ) × (payloadOf (placeAt h m u .buffer) (placeAt h m u .len) ≡ record { held = Packet; packet = p })
+EverRead h p = (m : ℕ) × (u : ℕ) × (readOf (placeAt h m u) ≡ record { held = Packet; packet = p })
 
 -- whatever the buffers and the list, no two texts ever held are packets of one term, one Committed and one Aborted
 abbrev pub LateTexts : Type 0
