@@ -1,13 +1,13 @@
 #!/usr/bin/env python3
 """Makes crates/packet_cases/stdin and stdout from the Rust's answers and from cases by hand; src/main.rt says what a question means.
 
-Usage: (differential/run --sample packets; differential/run --sample merge) | differential/packet_cases.py
+Usage: (for part in packets merge late; do differential/run --sample $part; done) | differential/packet_cases.py
 """
 import pathlib
 import sys
 
 folder = pathlib.Path(__file__).resolve().parent.parent / "crates" / "packet_cases"
-CAPTURE, PIPELINE, WRITE, MERGE = 1, 2, 2, 5  # a packet to be written is of kind family + WRITE
+CAPTURE, PIPELINE, WRITE, MERGE, PROPOSE = 1, 2, 2, 5, 6  # a packet to be written is of kind family + WRITE
 TOP, OVER = str(2**64 - 1), str(2**64)
 
 
@@ -151,6 +151,16 @@ WRITTEN = [
     ("number of no piggyback", PIPELINE, b"", 175, 1, "0 0 0 0 0 0 0 0 0 7 0 0", "refusal 9 " + "." * 175),
     ("phase of no piggyback", PIPELINE, b"", 175, 1, "0 0 0 0 0 0 0 0 0 0 0 1", "refusal 9 " + "." * 175),
 ]
+# Proposals: buffers that the text fills, and one byte fewer; the last term but one, and the last; then 8 and 2. Name, size, term, n, position, answer.
+PROPOSED = [
+    ("proposal, buffer just full", 85, 0, 2, 0, f"85 {ce()}"),
+    ("proposal, buffer one short", 84, 0, 2, 0, "refusal 10 " + "." * 84),
+    ("proposal of the last term", 1, int(TOP) - 1, 2, 0, "refusal 10 ."),
+    ("no term follows", 85, int(TOP), 2, 0, "refusal 13 " + "." * 85),
+    ("no such position", 3, int(TOP), 2, 2, "refusal 8 ..."),
+    ("no positions", 3, 0, 0, 0, "refusal 2 ..."),
+    ("65 positions", 3, 0, 65, 65, "refusal 2 ..."),
+]
 
 
 def told(data):
@@ -171,6 +181,8 @@ def by_hand():
         yield f"{family} {told(text.encode())} {length} {name}", answer
     for name, family, data, size, place, numbers, answer in WRITTEN:
         yield f"{family + WRITE} {told(data)} {size} {place} {numbers} {name}", answer
+    for name, size, term, n, position, answer in PROPOSED:
+        yield f"{PROPOSE} {size} {term} {n} 0 0 {position} {name}", answer
 
 
 def of_text(columns):
@@ -193,10 +205,17 @@ def of_merge(columns):
     return [(asked, f"{news} {bytes.fromhex(after).decode()}")]
 
 
+def of_proposal(columns):
+    """Written into a buffer with one byte more than the text."""
+    head, after, note = columns
+    text = bytes.fromhex(after).decode()
+    return [(f"{PROPOSE} {len(text) + 1} {head} {note}", f"{len(text)} {text}.")]
+
+
 def from_sample(line):
-    """A line of either sample as questions and answers: texts have five columns, merges six."""
+    """A line of a sample as questions and answers: proposals have three columns, texts five, merges six."""
     columns = [part.strip() for part in line.split("|")]
-    return of_merge(columns) if len(columns) == 6 else of_text(columns)
+    return {3: of_proposal, 5: of_text, 6: of_merge}[len(columns)](columns)
 
 
 sample = [line for line in sys.stdin if line.strip() and not line.startswith("#")]

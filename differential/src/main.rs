@@ -3,6 +3,7 @@
 mod capture;
 mod frame;
 mod graph;
+mod late;
 mod merges;
 mod oracle;
 mod packets;
@@ -36,6 +37,7 @@ fn parts() -> Vec<Part> {
         ("pipeline", None),
         ("room", None),
         ("frame", None),
+        ("late", None),
     ];
     // no archive: it runs the program that PLANNER names
     if std::env::var_os("PLANNER").is_some() {
@@ -49,6 +51,7 @@ fn parts() -> Vec<Part> {
     {
         all[1].1 = Some(packets::run);
         all[2].1 = Some(merges::run);
+        all[7].1 = Some(late::run);
     }
     #[cfg(feature = "engines")]
     {
@@ -100,6 +103,7 @@ fn main() {
             "graph" => graph::sample(),
             "packets" => packets::sample(),
             "merge" => merges::sample(),
+            "late" => late::sample(),
             "capture" => capture::sample(),
             "pipeline" => pipeline::sample(),
             "room" => room::sample(),

@@ -172,20 +172,9 @@ pub fn sample() {
 }
 
 #[cfg(feature = "packets")]
-pub use compared::run;
-
-#[cfg(feature = "packets")]
-mod compared {
-    use super::*;
-    use crate::oracle::{protocol, votes_yes};
-    use crate::tally::Tally;
-    use crate::time;
-    use crate::Options;
-    use ctsim::protocol::Protocol;
-    use std::collections::BTreeMap;
-
+pub mod c {
     extern "C" {
-        fn ce_packet_merge(
+        pub fn ce_packet_merge(
             local: *mut u8,
             local_count: usize,
             local_len: *mut u64,
@@ -198,8 +187,8 @@ mod compared {
             seed: u64,
             news: *mut u64,
         ) -> u64;
-        fn ce_vote(term: u64, node_id: u64, abort_probability: f64, seed: u64) -> u64;
-        fn ce_packet_propose(
+        pub fn ce_vote(term: u64, node_id: u64, abort_probability: f64, seed: u64) -> u64;
+        pub fn ce_packet_propose(
             term: u64,
             n: u64,
             initiator: u64,
@@ -210,6 +199,21 @@ mod compared {
             next: *mut u64,
         ) -> u64;
     }
+}
+
+#[cfg(feature = "packets")]
+pub use compared::run;
+
+#[cfg(feature = "packets")]
+mod compared {
+    use super::c::*;
+    use super::*;
+    use crate::oracle::{protocol, votes_yes};
+    use crate::tally::Tally;
+    use crate::time;
+    use crate::Options;
+    use ctsim::protocol::Protocol;
+    use std::collections::BTreeMap;
 
     const WAS: u64 = 0xA5A5_A5A5_A5A5_A5A5;
     const WAS_BYTE: u8 = 0xA5;

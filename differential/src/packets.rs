@@ -188,7 +188,7 @@ impl Family for Pipe {
 }
 
 #[cfg(feature = "packets")]
-mod c {
+pub mod c {
     extern "C" {
         pub fn ce_packet_read(
             text: *const u8,

@@ -1,16 +1,19 @@
--- Late frames, by RULES 11.11: lists of proposals and of deliveries, where a delivery may bring whatever packet was
--- held somewhere before.
--- Assumes nothing: these are definitions and a statement, which proofs/Late.antt proves.
+-- Late frames, by RULES 11.13: lists of proposals and of deliveries, where a delivery may bring whatever packet was
+-- held somewhere before. `LateFrames` is said for any votes, `LateInRoom` for those of a room.
+-- Assumes nothing: these are definitions and statements, which proofs/Late.antt proves.
 use mathlib.Core.Path.{_≡_}
 use mathlib.Core.Bool.{Bool, true, false}
 use mathlib.Core.List.{List, [], _∷_}
 use Prim.Native.Nat.{ℕ}
-use lib.Dec.{ltb}
+use lib.Dec.{ltb, eqb}
 use lib.ListN.{getD, set, replicate}
+use Rattle.limits.specs.Limits.{lastTerm}
 use Rattle.loops.specs.Pick.{either}
+use Rattle.merges.specs.Votes.{noOf}
 use Rattle.merges.specs.Merging.{Noes, mergeOf, proposalOf, noPayload}
 use Rattle.packets.specs.declared.TwoPcPhase.the-variants.{Committed, Aborted}
 use Rattle.packets.specs.declared.CeTwoPcPacket.{CeTwoPcPacket}
+use Rattle.merges.specs.declared.votes.Voting.{Voting}
 use Rattle.merges.specs.declared.merging.Held.the-variants.{Packet}
 use Rattle.merges.specs.declared.merging.Payload.{Payload}
 
@@ -65,3 +68,31 @@ LateFrames =
     → heldAt (history nay n es (opening n t ∷ [])) m u .packet .phase ≡ Committed
     → heldAt (history nay n es (opening n t ∷ [])) k w .packet .phase ≡ Aborted
     → ⊥
+
+-- ---- in a room: n, abort probability and seed are fixed, and the votes are those that they give
+
+-- one event: where no term follows a proposal is refused (13), and nothing changes
+unfoldable pub happenedIn : Voting → Event → History → Moment → Moment
+happenedIn s (Propose v) h a = either (eqb (a .term) lastTerm) a (happened (noOf s) (s .n) (Propose v) h a)
+happenedIn s (Deliver v m u) h a = happened (noOf s) (s .n) (Deliver v m u) h a
+
+-- all moments of a list of events, the last one first
+unfoldable pub historyIn : Voting → List Event → History → History
+historyIn s [] h = h
+historyIn s (e ∷ es) [] = []
+historyIn s (e ∷ es) (a ∷ h) = historyIn s es (happenedIn s e (a ∷ h) a ∷ a ∷ h)
+
+-- .. from an empty room in term t on
+abbrev pub roomHistory : Voting → ℕ → List Event → History
+roomHistory s t es = historyIn s es (opening (s .n) t ∷ [])
+
+-- some position held the packet p at some moment
+abbrev pub EverHeld : History → CeTwoPcPacket → Type 0
+EverHeld h p = (m : ℕ) × (u : ℕ) × (heldAt h m u ≡ record { held = Packet; packet = p })
+
+-- no two packets ever held for one term, at whatever moments, are one Committed and one Aborted
+abbrev pub LateInRoom : Type 0
+LateInRoom =
+    (s : Voting) (t : ℕ) (es : List Event) (p q : CeTwoPcPacket)
+    → EverHeld (roomHistory s t es) p → EverHeld (roomHistory s t es) q
+    → p .term ≡ q .term → p .phase ≡ Committed → q .phase ≡ Aborted → ⊥

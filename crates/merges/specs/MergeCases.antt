@@ -1,5 +1,5 @@
--- Cases of votes, merges and outcomes: those of RULES 4.1, 6.9 and 11.12, and small ones that tell the rules from
--- their neighbours. Assumes nothing: these are statements, proved by computing in proofs/MergeCases.antt.
+-- Cases of votes, merges, outcomes and late copies: those of RULES 4.1, 6.9 and 11.12, and small ones that tell the
+-- rules from their neighbours. Assumes nothing: these are statements, proved by computing in proofs/MergeCases.antt.
 use mathlib.Core.Path.{_≡_}
 use mathlib.Core.Bool.{Bool, true, false}
 use mathlib.Core.List.{List, [], _∷_}
@@ -9,6 +9,8 @@ use lib.Ieee.{Float, nan, binary64, ofBits, lt}
 use lib.ListN.{replicate}
 use Rattle.merges.specs.Votes.{noOf}
 use Rattle.merges.specs.Merging.{Noes, redundant, newInfo, mergeOf, proposalOf, noPayload, canSleepOf, networkGoalOf, outcomeOf}
+use Rattle.limits.specs.Limits.{lastTerm}
+use Rattle.merges.specs.Late.{Event, Propose, Deliver, heldAt, roomHistory}
 use Rattle.packets.specs.declared.TwoPcPhase.{TwoPcPhase}
 use Rattle.packets.specs.declared.TwoPcPhase.the-variants.{Prepare, Committed, Aborted}
 use Rattle.packets.specs.declared.CeTwoPcPacket.{CeTwoPcPacket}
@@ -136,6 +138,42 @@ Outcomes =
     × (canSleepOf 2 (on (held Committed a 2 3)) ≡ true)
     × (canSleepOf 2 (on (held Committed a 3 3)) ≡ false)
 
+-- ---- late copies: under the seed of `MarkedVotes` position 0 votes no in term 1, and everybody yes in term 2
+abbrev pub lateAt : ℕ → ℕ → List Event → ℕ → ℕ → Payload
+lateAt n t es m u = heldAt (roomHistory (voting n 0x3F40_624D_D2F1_A9FC 0x61C8_8646_80B5_83EC) t es) m u
+
+abbrev pub Says : ℕ → TwoPcPhase → Payload → Type 0
+Says t f l = (l .held ≡ Packet) × (l .packet .term ≡ t) × (l .packet .phase ≡ f)
+
+-- a lone position aborts term 1 and commits term 2: then a copy of the abort says nothing to it
+abbrev pub alone : List Event
+alone = Propose 0 ∷ Propose 0 ∷ Deliver 0 1 0 ∷ []
+
+-- of two, position 0 aborts term 1, and 1 proposes anew; 0, now empty, takes the old abort up again, and leaves it
+-- for term 2, which it commits
+abbrev pub again : List Event
+again = Propose 1 ∷ Deliver 0 0 1 ∷ Propose 1 ∷ Deliver 0 1 0 ∷ Deliver 0 0 1 ∷ []
+
+-- both know of an abort: then a copy of the proposal opens it no more
+abbrev pub reopened : List Event
+reopened = Propose 1 ∷ Deliver 0 0 1 ∷ Deliver 1 0 0 ∷ Deliver 1 2 1 ∷ []
+
+-- and in the last term nobody proposes any more
+abbrev pub LateCopies : Type 0
+LateCopies =
+    (Says 1 Aborted (lateAt 1 0 alone 2 0)
+    × Says 2 Committed (lateAt 1 0 alone 1 0)
+    × Says 2 Committed (lateAt 1 0 alone 0 0))
+    × (Says 1 Aborted (lateAt 2 0 again 3 0)
+    × (lateAt 2 0 again 2 0 ≡ noPayload)
+    × Says 1 Aborted (lateAt 2 0 again 1 0))
+    × (Says 2 Committed (lateAt 2 0 again 0 0) × Says 2 Prepare (lateAt 2 0 again 0 1))
+    × (Says 1 Prepare (lateAt 2 0 reopened 3 1)
+    × Says 1 Aborted (lateAt 2 0 reopened 1 1)
+    × Says 1 Aborted (lateAt 2 0 reopened 0 1))
+    × (lateAt 2 lastTerm (Propose 0 ∷ []) 0 0 ≡ noPayload)
+
 abbrev pub MergeTable : Type 0
 MergeTable =
     MarkedVotes × AdoptingVotes × DataStays × BehindN × AllEntries × UnanimousAlready × ShortBitmap × LowerPhase × NoPacket × Proposals × Outcomes
+    × LateCopies

@@ -1,19 +1,21 @@
-// RULES none. Reads packet texts, writes and merges them, by the entries for C, and prints the answers; the file
-// `stdout` holds the Rust's answers to the same questions. Both files are made by `(differential/run --sample packets;
-// differential/run --sample merge) | differential/packet_cases.py`, which adds the cases at the limits, off the
-// grammar and of buffers that are too small. A line is words with single blanks between them: numbers in decimal;
-// texts and data in hexadecimal, - for an empty one. What stands behind the words of a question is a note, and is not
-// read.
+// RULES none. Reads packet texts, writes and merges them, and proposes, by the entries for C, and prints the answers;
+// the file `stdout` holds the Rust's answers to the same questions. Both files are made by
+// differential/packet_cases.py from three samples (`differential/run --sample` with packets, merge and late); it adds
+// the cases at the limits, off the grammar and of buffers that are too small. The sample late is of lists of proposals
+// and deliveries: each event is a question 6 or 5, with the texts that the Rust had then. A line is words with single
+// blanks between them: numbers in decimal; texts and data in hexadecimal, - for an empty one. What stands behind the
+// words of a question is a note, and is not read.
 //   1 text length                            a capture text and its stated length
 //   2 text length                            a pipeline text
 //   3 data size place numbers                a capture packet of 5 numbers, to be written at that place of a
 //                                            buffer of that size
 //   4 data size place numbers                a pipeline packet of 12 numbers
 //   5 local received n abort seed position   a merge; the abort probability is told by its bits
+//   6 size term n abort seed position        a proposal after that term, into a buffer of that size
 // A text that is read is written again, into a buffer that has one byte before it and one behind. The answer to 1 to 4
-// is the place behind what was written, and the whole buffer, where a dot is a byte that nobody wrote; or the refusal,
-// and the buffer if it is the writing that was refused. The answer to 5 is 1 if there was news, 0 if not, and the local
-// text afterwards.
+// and 6 is the place behind what was written, and the whole buffer, where a dot is a byte that nobody wrote; or the
+// refusal, and the buffer if it is the writing that was refused. The answer to 5 is 1 if there was news, 0 if not, and
+// the local text afterwards.
 ghost use mathlib.Core.Path.{_≡_};
 ghost use Prim.Native.Nat.{_≤_};
 ghost use lib.Ieee.{binary64, nanBits};
@@ -250,6 +252,19 @@ fn merge(local: &mut [u8], n: usize, digits: &[u8], at: &[u64; 16]) {
     say(&local[0..end]);
 }
 
+fn propose_into(buf: &mut [u8], at: &[u64; 16]) {
+    let abort = float_of(at[4]);
+    let mut next: u64 = 0;
+    let k = desk::ce_packet_propose(at[2], at[3], at[6], abort, at[5], buf, &mut next);
+    say_wrote(k, next, buf);
+}
+
+fn propose(at: &[u64; 16]) {
+    let mut buf = [46u8; 1024];
+    let end = at_most(at[1], 1024);
+    propose_into(&mut buf[0..end], at);
+}
+
 fn answer(text: &[u8], l: Line) {
     let at = numbers_of(text, l);
     let mut bytes = [46u8; 1024];
@@ -260,6 +275,7 @@ fn answer(text: &[u8], l: Line) {
         3 => write_ce(&bytes[0..n], at[2], at[3], &at[4..16]),
         4 => write_pipeline(&bytes[0..n], at[2], at[3], &at[4..16]),
         5 => merge(&mut bytes, n, word(text, l, 2), &at),
+        6 => propose(&at),
         _ => {}
     }
     say(b"\n");

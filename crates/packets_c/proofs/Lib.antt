@@ -1,5 +1,6 @@
 pub mod Asked
 pub mod Desks
 pub mod Texting
+pub mod Late
 pub mod Numbered
 pub mod Back

@@ -1,25 +1,28 @@
--- The merge on texts follows the merge of packets, and is refused as 2, 8 or 10 alone.
+-- The merge on texts follows the merge of packets, and is refused as 2, 8 or 10 alone; a proposal's text is read as the
+-- proposal.
 -- Assumes nothing.
 use mathlib.Core.Path.{_≡_, refl, sym, ap, _∙_, subst}
 use mathlib.Core.Bool.{Bool, true, false, _&&_}
 use mathlib.Core.List.{List}
 use mathlib.Core.Logic.{_⊎_, inl, inr}
-use Prim.Native.Nat.{ℕ, _+_, _≤_}
+use Prim.Native.Nat.{ℕ, _+_, _≤_, _<_}
 use native.Mathlib.Omega.{arith}
 use lib.Dec.{leb, ltb, eqb}
-use lib.ListN.{length, take}
-use borrow.Author.Tests.{le-leb, leb-true, eq-eqb, ne-eqb, eqb-true, eqb-false}
-use Rattle.limits.specs.Refusals.{badPositions, noPosition, noFit}
+use lib.ListN.{length, take, length-take}
+use lib.Seq.{take-all, take-take}
+use borrow.Author.Tests.{le-leb, leb-true, leb-false, ltb-true, eq-eqb, ne-eqb, eqb-true, eqb-false}
+use Rattle.limits.specs.Limits.{lastTerm}
+use Rattle.limits.specs.Refusals.{badPositions, noPosition, noFit, noTerm}
 use Rattle.loops.specs.Pick.{either}
 use Rattle.marks.specs.Sets.{and-true}
 use Rattle.texts.specs.Put.{written, length-written}
-use Rattle.packets.specs.Packets.{ceText, ValidCe}
+use Rattle.packets.specs.Packets.{ceText, ceWithin, ValidCe}
 use Rattle.packets.specs.Reading.{ceRead, ceReadOf, ceNo}
-use Rattle.packets.specs.Writing.{wroteOf, leftOf}
+use Rattle.packets.specs.Writing.{refused, wroteOf, leftOf}
 use Rattle.merges.specs.Votes.{noOf}
-use Rattle.merges.specs.Merging.{Noes, sameTermOf, outdated, heardOf, mergedBy, mergeOf, readAs, payloadOf}
+use Rattle.merges.specs.Merging.{Noes, sameTermOf, outdated, heardOf, mergedBy, mergeOf, readAs, payloadOf, proposalOf}
 use Rattle.merges.specs.Sound.{ValidHeld}
-use Rattle.packets_c.specs.Desk.{refusalOf, Desk, rewritten, answered, deskOf, TextsFollow, Refusals}
+use Rattle.packets_c.specs.Desk.{refusalOf, Desk, rewritten, answered, deskOf, proposeRefusal, proposedOf, proposedLeft, TextsFollow, ProposalFollows, CopyReads, AmpleMerges, AmpleProposes, Refusals}
 use Rattle.packets.specs.declared.CeTwoPcPacket.{CeTwoPcPacket}
 use Rattle.packets.specs.declared.CeRead.{CeRead}
 use Rattle.packets.specs.declared.Wrote.{Wrote}
@@ -33,7 +36,7 @@ use Rattle.merges.specs.declared.merging.Merged.{Merged}
 use Rattle.packets.proofs.Promises.{ce-promises}
 use Rattle.merges.proofs.Safety.{either-cases}
 use Rattle.merges.proofs.Growth.{told-apart, redundant-keeps}
-use Rattle.merges.proofs.Limits.{merges-valid}
+use Rattle.merges.proofs.Limits.{merges-valid, proposes-valid}
 use Rattle.packets_c.proofs.Asked.{taken-back}
 
 -- it is a refusal
@@ -142,14 +145,15 @@ module _ (p : CeTwoPcPacket) (s : ValidCe p) (local : List ℕ) (len was : ℕ) 
 abbrev tested : Bool → Bool → Bool → Bool → ℕ
 tested a b c d = either a (either b (either c (either d 0 noFit) noFit) noPosition) badPositions
 
--- an allowed call has at most 64 positions
-allowed : (n v cap len rcap rlen : ℕ) → refusalOf n v cap len rcap rlen ≡ 0 → n ≤ 64
+-- an allowed call is made for one of at most 64 positions
+allowed : (n v cap len rcap rlen : ℕ) → refusalOf n v cap len rcap rlen ≡ 0 → (n ≤ 64) × (v < n)
 unfolding refusalOf
-allowed n v cap len rcap rlen = go (ltb 0 n && leb n 64) refl
+allowed n v cap len rcap rlen = go (ltb 0 n && leb n 64) (ltb v n) refl refl
   where
-    go : (b : Bool) → (ltb 0 n && leb n 64) ≡ b → tested b (ltb v n) (leb len cap) (leb rlen rcap) ≡ 0 → n ≤ 64
-    go true e k = leb-true n 64 (and-true (ltb 0 n) (leb n 64) e .1)
-    go false e k = absurd (omega arith)
+    go : (a b : Bool) → (ltb 0 n && leb n 64) ≡ a → ltb v n ≡ b → tested a b (leb len cap) (leb rlen rcap) ≡ 0 → (n ≤ 64) × (v < n)
+    go true true e f k = (leb-true n 64 (and-true (ltb 0 n) (leb n 64) e .1), ltb-true v n f)
+    go true false e f k = absurd (omega arith)
+    go false b e f k = absurd (omega arith)
 
 module _ (s : Voting) (v : ℕ) (local : List ℕ) (len : ℕ) (received : List ℕ) (rlen was : ℕ) where
   abbrev merged : Merged
@@ -179,7 +183,17 @@ unfolding deskOf
 texts-follow s v local len received rlen was =
     let k = refusalOf (s .n) v (length local) len (length received) rlen in
     either-cases (λ (d : Desk). d .refusal ≡ 0 → payloadOf (d .text) (d .len) ≡ merged s v local len received rlen was .payload) (eqb k 0)
-    (λ x. answered-follows s v local len received rlen was (allowed (s .n) v (length local) len (length received) rlen (eqb-true k 0 x)) (merged s v local len received rlen was .result) refl)
+    (λ x. answered-follows s v local len received rlen was (allowed (s .n) v (length local) len (length received) rlen (eqb-true k 0 x) .0) (merged s v local len received rlen was .result) refl)
+    (λ x e. absurd (eqb-false k 0 x e))
+
+-- of a call that is not refused: for which position it was made
+pub accepted-merge : (s : Voting) (v : ℕ) (local : List ℕ) (len : ℕ) (received : List ℕ) (rlen was : ℕ)
+    → deskOf s v local len received rlen was .refusal ≡ 0 → v < s .n
+unfolding deskOf
+accepted-merge s v local len received rlen was =
+    let k = refusalOf (s .n) v (length local) len (length received) rlen in
+    either-cases (λ (d : Desk). d .refusal ≡ 0 → v < s .n) (eqb k 0)
+    (λ x e. allowed (s .n) v (length local) len (length received) rlen (eqb-true k 0 x) .1)
     (λ x e. absurd (eqb-false k 0 x e))
 
 refusal-ends : (n v cap len rcap rlen : ℕ)
@@ -200,5 +214,107 @@ unfolding deskOf
 refusals s v local len received rlen was =
     let k = refusalOf (s .n) v (length local) len (length received) rlen in
     either-cases (λ (d : Desk). (d .refusal ≡ 0) ⊎ ((d .refusal ≡ badPositions) ⊎ ((d .refusal ≡ noPosition) ⊎ (d .refusal ≡ noFit)))) (eqb k 0)
-    (λ x. answered-ends s v local len received rlen was (allowed (s .n) v (length local) len (length received) rlen (eqb-true k 0 x)) (merged s v local len received rlen was .result) refl)
+    (λ x. answered-ends s v local len received rlen was (allowed (s .n) v (length local) len (length received) rlen (eqb-true k 0 x) .0) (merged s v local len received rlen was .result) refl)
     (λ x. refusal-ends (s .n) v (length local) len (length received) rlen)
+
+-- ---- the proposal
+-- by its three tests
+abbrev offered : Bool → Bool → Bool → ℕ
+offered a b c = either a (either b (either c noTerm 0) noPosition) badPositions
+
+-- an allowed proposal is made by one of at most 64 positions
+pub may-propose : (n v t : ℕ) → proposeRefusal n v t ≡ 0 → (n ≤ 64) × (v < n)
+unfolding proposeRefusal
+may-propose n v t = go (ltb 0 n && leb n 64) (ltb v n) (eqb t lastTerm) refl refl
+  where
+    go : (a b c : Bool) → (ltb 0 n && leb n 64) ≡ a → ltb v n ≡ b → offered a b c ≡ 0 → (n ≤ 64) × (v < n)
+    go true true c e f k = (leb-true n 64 (and-true (ltb 0 n) (leb n 64) e .1), ltb-true v n f)
+    go true false c e f k = absurd (omega arith)
+    go false b c e f k = absurd (omega arith)
+
+module _ (p : CeTwoPcPacket) (s : ValidCe p) (buf : List ℕ) where
+  written-follows : wroteOf (ceWithin p) (ceText p) buf 0 .refusal ≡ 0
+      → payloadOf (leftOf (ceWithin p) (ceText p) buf 0) (wroteOf (ceWithin p) (ceText p) buf 0 .next) ≡ record { held = Packet; packet = p }
+  unfolding wroteOf leftOf
+  written-follows = rw (ce-promises .fits p s) (by (leb (0 + length (ceText p)) (length buf)) refl)
+    where
+      by : (b : Bool) → leb (0 + length (ceText p)) (length buf) ≡ b
+          → either {A = Wrote} b (record { refusal = 0; next = 0 + length (ceText p) }) (record { refusal = noFit; next = 0 }) .refusal ≡ 0
+          → payloadOf (either b (written buf 0 (ceText p)) buf) (either {A = Wrote} b (record { refusal = 0; next = 0 + length (ceText p) }) (record { refusal = noFit; next = 0 }) .next)
+          ≡ record { held = Packet; packet = p }
+      by true e k = reread p s buf (leb-true (0 + length (ceText p)) (length buf) e)
+      by false e k = absurd (no-fit k)
+
+-- of an accepted proposal: that it was allowed
+pub accepted-proposal : (s : Voting) (v t : ℕ) (buf : List ℕ) → proposedOf s v t buf .refusal ≡ 0 → proposeRefusal (s .n) v t ≡ 0
+unfolding proposedOf
+accepted-proposal s v t buf =
+    either-cases (λ (w : Wrote). w .refusal ≡ 0 → proposeRefusal (s .n) v t ≡ 0) (eqb (proposeRefusal (s .n) v t) 0)
+    (λ x k. eqb-true (proposeRefusal (s .n) v t) 0 x)
+    (λ x k. k)
+
+-- a packet that is valid where the refusal r is none
+offered-follows : (p : CeTwoPcPacket) (buf : List ℕ) (r : ℕ) → (r ≡ 0 → ValidCe p)
+    → either (eqb r 0) (wroteOf (ceWithin p) (ceText p) buf 0) (refused r) .refusal ≡ 0
+    → payloadOf (either (eqb r 0) (leftOf (ceWithin p) (ceText p) buf 0) buf) (either (eqb r 0) (wroteOf (ceWithin p) (ceText p) buf 0) (refused r) .next)
+    ≡ record { held = Packet; packet = p }
+offered-follows p buf r valid = by (eqb r 0) refl
+  where
+    by : (b : Bool) → eqb r 0 ≡ b
+        → either b (wroteOf (ceWithin p) (ceText p) buf 0) (refused r) .refusal ≡ 0
+        → payloadOf (either b (leftOf (ceWithin p) (ceText p) buf 0) buf) (either b (wroteOf (ceWithin p) (ceText p) buf 0) (refused r) .next)
+        ≡ record { held = Packet; packet = p }
+    by true e k = written-follows p (valid (eqb-true r 0 e)) buf k
+    by false e k = absurd (eqb-false r 0 e k)
+
+pub proposal-follows : ProposalFollows
+unfolding proposedOf proposedLeft
+proposal-follows s v t buf =
+    offered-follows (proposalOf (noOf s) (s .n) v t) buf (proposeRefusal (s .n) v t)
+    (λ k. proposes-valid (noOf s) (s .n) v t (may-propose (s .n) v t k .0))
+
+-- ---- a buffer with room for every text
+room-enough : (p : CeTwoPcPacket) → ValidCe p → (d : List ℕ) → 596 ≤ length d → leb (0 + length (ceText p)) (length d) ≡ true
+room-enough p s d h = le-leb (0 + length (ceText p)) (length d) (omega (arith, ce-promises .short p s))
+
+module _ (s : Voting) (v : ℕ) (local : List ℕ) (len : ℕ) (received : List ℕ) (rlen was : ℕ) where
+  answered-ample : s .n ≤ 64 → 596 ≤ length local → (r : MergeResult) → merged s v local len received rlen was .result ≡ r
+      → answered local len was (merged s v local len received rlen was .payload .packet) r .refusal ≡ 0
+  unfolding answered
+  answered-ample h k Redundant e = refl
+  answered-ample h k NewInfo e =
+      let p = merged s v local len received rlen was .payload .packet in
+      let q = valid-news s v local len received rlen was h e in
+      ap (λ (d : Desk). d .refusal) (rewritten-made p q local len was ∙ ap (Made p q local len was) (room-enough p q local k))
+
+pub ample-merges : AmpleMerges
+unfolding deskOf
+ample-merges s v local len received rlen was h =
+    let k = refusalOf (s .n) v (length local) len (length received) rlen in
+    either-cases (λ (d : Desk). d .refusal ≡ k) (eqb k 0)
+    (λ x. answered-ample s v local len received rlen was (allowed (s .n) v (length local) len (length received) rlen (eqb-true k 0 x) .0) h (merged s v local len received rlen was .result) refl
+    ∙ sym (eqb-true k 0 x))
+    (λ x. refl)
+
+pub ample-proposes : AmpleProposes
+unfolding proposedOf wroteOf
+ample-proposes s v t buf h =
+    let k = proposeRefusal (s .n) v t in
+    let p = proposalOf (noOf s) (s .n) v t in
+    either-cases (λ (w : Wrote). w .refusal ≡ k) (eqb k 0)
+    (λ x. let q = proposes-valid (noOf s) (s .n) v t (may-propose (s .n) v t (eqb-true k 0 x) .0) in
+    rw (ce-promises .fits p q, room-enough p q buf h) (sym (eqb-true k 0 x)))
+    (λ x. refl)
+
+-- ---- a copy
+copy-read : (s : List ℕ) (len : ℕ) → ceRead (take len s) len ≡ ceRead s len
+unfolding ceRead
+copy-read s len = by (leb len (length s)) refl
+  where
+    by : (b : Bool) → leb len (length s) ≡ b → either (leb len (length (take len s))) (ceReadOf (take len (take len s))) (ceNo noFit) ≡ either b (ceReadOf (take len s)) (ceNo noFit)
+    by true e = rw (le-leb len (length (take len s)) (omega (arith, length-take len s, leb-true len (length s) e)), take-take len len s (omega arith))
+    by false e = rw (take-all len s (omega (arith, leb-false len (length s) e)), e)
+
+pub copy-reads : CopyReads
+unfolding payloadOf
+copy-reads s len = ap (readAs len) (copy-read s len)

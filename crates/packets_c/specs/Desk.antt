@@ -5,10 +5,10 @@ use mathlib.Core.Path.{_≡_}
 use mathlib.Core.Bool.{Bool, true, false, _&&_}
 use mathlib.Core.List.{List}
 use mathlib.Core.Logic.{_⊎_}
-use Prim.Native.Nat.{ℕ}
+use Prim.Native.Nat.{ℕ, _≤_}
 use lib.Dec.{leb, ltb, eqb}
 use lib.Ieee.{Float}
-use lib.ListN.{length}
+use lib.ListN.{length, take}
 use Rattle.limits.specs.Limits.{positions, lastTerm}
 use Rattle.limits.specs.Refusals.{badPositions, noPosition, noFit, noTerm}
 use Rattle.loops.specs.Pick.{either}
@@ -113,6 +113,28 @@ TextsFollow =
     → deskOf s v local len received rlen was .refusal ≡ 0
     → payloadOf (deskOf s v local len received rlen was .text) (deskOf s v local len received rlen was .len)
     ≡ mergeOf (noOf s) (s .n) v (payloadOf local len) (payloadOf received rlen) .payload
+
+-- what is read after a proposal that is not refused is the proposal
+abbrev pub ProposalFollows : Type 0
+ProposalFollows =
+    (s : Voting) (v t : ℕ) (buf : List ℕ) → proposedOf s v t buf .refusal ≡ 0
+    → payloadOf (proposedLeft s v t buf) (proposedOf s v t buf .next)
+    ≡ record { held = Packet; packet = proposalOf (noOf s) (s .n) v t }
+
+-- a copy of a text is read as the text
+abbrev pub CopyReads : Type 0
+CopyReads = (buf : List ℕ) (len : ℕ) → payloadOf (take len buf) len ≡ payloadOf buf len
+
+-- a buffer of 596 bytes has room for every text: then a call is refused by what is tested before any text is read, and
+-- by nothing else
+abbrev pub AmpleMerges : Type 0
+AmpleMerges =
+    (s : Voting) (v : ℕ) (local : List ℕ) (len : ℕ) (received : List ℕ) (rlen was : ℕ) → 596 ≤ length local
+    → deskOf s v local len received rlen was .refusal ≡ refusalOf (s .n) v (length local) len (length received) rlen
+
+abbrev pub AmpleProposes : Type 0
+AmpleProposes =
+    (s : Voting) (v t : ℕ) (buf : List ℕ) → 596 ≤ length buf → proposedOf s v t buf .refusal ≡ proposeRefusal (s .n) v t
 
 -- a call is refused as 2, 8 or 10, and as nothing else: inside a merge, 9 is no refusal
 abbrev pub Refusals : Type 0

@@ -1,3 +1,4 @@
 pub mod Console
 pub mod Desk
 pub mod Back
+pub mod Late
