@@ -1,7 +1,7 @@
 -- The rules computed: some of the Rust's answers, and what RULES 2.2 says of small rings. Assumes nothing.
 use mathlib.Core.Path.{_≡_, refl}
 use mathlib.Core.Bool.{Bool, true, false, not, _&&_, _||_}
-use mathlib.Core.List.{[], _∷_}
+use mathlib.Core.List.{List, [], _∷_}
 use Prim.Native.Nat.{ℕ, _<_}
 use lib.Dec.{ltb}
 use lib.ListN.{getD, take}
@@ -11,7 +11,9 @@ use Rattle.marks.specs.Marks.{has, marks, anyOf}
 use Rattle.marks.specs.Sets.{all-found, has-marks}
 use Rattle.graph.specs.declared.network.Topology.the-variants.{FullMesh, Line, Ring, Grid, Tree}
 use Rattle.graph.specs.Links.{isSize, graphBy, inside, graphRefusal, linked, linkOf, aheadOf, meshRule, nextRule, ringRule, gridRule, treeRule}
+use Rattle.graph.specs.declared.network.NetworkGraph.{NetworkGraph}
 use Rattle.graph.specs.Paths.{diameterOf}
+use Rattle.graph.specs.Waves.{startOf, movedTo, stepOf, waveOf}
 
 -- A graph that is built by a rule has just the links of the rule.
 pub built-links : (n : ℕ) (link : ℕ → ℕ → Bool) (i j : ℕ) → linked (graphBy n link) i j ≡ ((ltb i n && ltb j n) && link i j)
@@ -55,6 +57,22 @@ small-rings = (refl, refl)
 pub diameters : (diameterOf (graphBy 2 (linkOf FullMesh 2)) ≡ 1) × (diameterOf (graphBy 3 (linkOf Line 3)) ≡ 2) × (diameterOf (graphBy 4 (linkOf Ring 4)) ≡ 2) × (diameterOf (graphBy 6 (linkOf (Grid 3) 6)) ≡ 3) × (diameterOf (graphBy 4 (linkOf (Tree 1) 4)) ≡ 3) × (diameterOf (graphBy 3 (linkOf (Tree 0) 3)) ≡ 0)
 unfolding diameterOf graphBy filled tabulate marks anyOf linkOf aheadOf meshRule nextRule ringRule gridRule treeRule
 diameters = (refl, refl, refl, refl, refl, refl)
+
+-- fronts of a wave: in a line of 4 from position 1, where the second step is the last that comes to anybody; and in 3
+-- positions with one-way links 0 to 1 and 1 to 2 of which 0 also hears itself, from 0 and from 2
+abbrev pub lineOf4 : NetworkGraph
+lineOf4 = graphBy 4 (linkOf Line 4)
+
+abbrev pub oneWay : NetworkGraph
+oneWay = record { n = 3; adj = 3 ∷ 4 ∷ [] }
+
+abbrev pub frontsOf : NetworkGraph → ℕ → List ℕ
+frontsOf g i =
+    waveOf g i 0 .front ∷ waveOf g i 1 .front ∷ waveOf g i 2 .front ∷ waveOf g i 3 .front ∷ waveOf g i 4 .front ∷ []
+
+pub fronts : (frontsOf lineOf4 1 ≡ 2 ∷ 5 ∷ 8 ∷ 0 ∷ 0 ∷ []) × (waveOf lineOf4 1 4 .links ≡ 2) × (frontsOf oneWay 0 ≡ 1 ∷ 2 ∷ 4 ∷ 0 ∷ 0 ∷ []) × (frontsOf oneWay 2 ≡ 4 ∷ 0 ∷ 0 ∷ 0 ∷ 0 ∷ [])
+unfolding waveOf startOf stepOf movedTo graphBy filled tabulate marks anyOf linkOf aheadOf nextRule
+fronts = (refl, refl, refl, refl)
 
 -- the rows of a grid of two rows of three, and of a tree of 4 with one child each
 pub rows-of : (take 6 (graphBy 6 (linkOf (Grid 3) 6) .adj) ≡ 10 ∷ 21 ∷ 34 ∷ 17 ∷ 42 ∷ 20 ∷ []) × (take 4 (graphBy 4 (linkOf (Tree 1) 4) .adj) ≡ 2 ∷ 5 ∷ 10 ∷ 4 ∷ [])

@@ -166,12 +166,24 @@ module _ (g : NetworkGraph) where
           let s = step-new i k (eqb-false (reached g i (suc k)) (reached g i k) e) in
           inl (omega (arith, q, count-grows (reached g i k) (reached g i (suc k)) (g .n) (s .0) (s .1) (s .3) (s .2) (λ j l p. reached-more i k j p)))
 
-  stable : (i : ℕ) → i < g .n → reached g i (suc (g .n)) ≡ reached g i (g .n)
-  stable i h = go (grows i h (g .n))
+  -- .. and already the last of n steps changes nothing: the start is one of the n.
+  pub settled : (i m : ℕ) → i < g .n → g .n ≡ suc m → reached g i (suc m) ≡ reached g i m
+  settled i m h n = go (grows i h m)
     where
-      go : (suc (g .n) ≤ countOf (reached g i (g .n)) (g .n)) ⊎ (reached g i (suc (g .n)) ≡ reached g i (g .n)) → reached g i (suc (g .n)) ≡ reached g i (g .n)
-      go (inl q) = absurd (omega (arith, q, count-le (reached g i (g .n)) (g .n)))
+      full : suc m ≤ countOf (reached g i m) (g .n) → (t : Bool) → eqb (reached g i (suc m)) (reached g i m) ≡ t → reached g i (suc m) ≡ reached g i m
+      full q true e = eqb-true (reached g i (suc m)) (reached g i m) e
+      full q false e =
+          let s = step-new i m (eqb-false (reached g i (suc m)) (reached g i m) e) in
+          absurd (omega (arith, q, n, count-grows (reached g i m) (reached g i (suc m)) (g .n) (s .0) (s .1) (s .3) (s .2) (λ j l p. reached-more i m j p), count-le (reached g i (suc m)) (g .n)))
+
+      go : (suc m ≤ countOf (reached g i m) (g .n)) ⊎ (reached g i (suc m) ≡ reached g i m) → reached g i (suc m) ≡ reached g i m
+      go (inl q) = full q (eqb (reached g i (suc m)) (reached g i m)) refl
       go (inr q) = q
+
+  stable : (i : ℕ) → i < g .n → reached g i (suc (g .n)) ≡ reached g i (g .n)
+  stable i h =
+      let n : g .n ≡ suc (g .n - 1) = omega arith in
+      subst (λ (x : ℕ). reached g i (suc x) ≡ reached g i x) (sym n) (still i (g .n - 1) (settled i (g .n - 1) h n))
 
   stays : (i : ℕ) → i < g .n → (m : ℕ) → reached g i (suc (g .n + m)) ≡ reached g i (g .n + m)
   stays i h zero = rw (add-zero (g .n)) (stable i h)

@@ -3,7 +3,6 @@ use mathlib.Core.Bool.{true, _||_, _&&_}
 use mathlib.Core.Path.{_≡_}
 use Prim.Native.Nat.{ℕ, zero, suc, _≤_, _<_, max}
 use lib.Dec.{eqb}
-use Rattle.limits.specs.Refusals.{badPositions}
 use Rattle.loops.specs.Pick.{either}
 use Rattle.loops.specs.Upto.{upto}
 use Rattle.marks.specs.Marks.{has, marks, anyOf}

@@ -9,11 +9,11 @@ ghost use lib.Dec.{eqb, ltb};
 ghost use Rattle.limits.specs.Limits.{positions};
 ghost use Rattle.loops.specs.Pick.{either};
 ghost use Rattle.loops.specs.Table.{filled};
-ghost use Rattle.marks.specs.Marks.{has, marks, anyOf, allOf};
+ghost use Rattle.marks.specs.Marks.{has, marks, allOf};
 ghost use Rattle.graph.specs.declared.network.Topology.the-variants.{FullMesh, Line, Ring, Tree};
 ghost use Rattle.graph.specs.Links.{graphBy, builtOf, noGraph, aheadOf, linkOf, ringRule, gridRule, treeRule, gridOf, topologyOf, plainOf, inside, rowsOf, graphRefusal, nodeRefusal, pairRefusal, rowOf, listOf, neighborsOf};
 ghost use Rattle.graph.specs.Paths.{Longest, reached, diameterOf, lengthOf, hasLinkOf, reachesOf};
-ghost use Rattle.graph.specs.Waves.{Stepped, Swept};
+ghost use Rattle.graph.specs.Waves.{leads, stepOf, waveOf};
 use super::sets;
 use limits::refusals;
 
@@ -334,7 +334,7 @@ struct Wave {
 
 // Where one link leads from the positions of the front.
 fn spread(adj: &[u64; 64], front: u64) -> u64
-    ensures { λ r. ⌜ ((j : ℕ) → has r j ≡ anyOf 64 (λ i. has front i && has (getD (now (adj .entry)) i 0) j)) ⌝ }
+    ensures { λ r. ⌜ ((j : ℕ) → has r j ≡ leads (now (adj .entry)) front j) ⌝ }
 {
     let mut left = front;
     let mut out: u64 = 0;
@@ -359,7 +359,7 @@ fn last_step(front: u64, links: usize, k: usize) -> usize
 // Step k + 1 of a wave.
 fn wave_step(adj: &[u64; 64], w: Wave, k: usize) -> Wave
     requires { ⌜ k < positions ⌝ }
-    ensures { λ r. ⌜ Stepped (now (adj .entry)) w k r ⌝ }
+    ensures { λ r. ⌜ r ≡ stepOf (now (adj .entry)) k w ⌝ }
 {
     let front = sets::intersection(spread(adj, w.front), w.unseen);
     let unseen = sets::difference(w.unseen, front);
@@ -371,9 +371,10 @@ fn wave_step(adj: &[u64; 64], w: Wave, k: usize) -> Wave
     }
 }
 
+// The wave after n steps. Behind an empty front it does not change any more, so the walk ends there.
 fn wave_from(adj: &[u64; 64], n: usize, start: usize) -> Wave
     requires { ⌜ (n ≤ positions) × (start < n) ⌝ }
-    ensures { λ r. ⌜ Swept (record { n = n; adj = now (adj .entry) }) start n r ⌝ }
+    ensures { λ r. ⌜ r ≡ waveOf (record { n = n; adj = now (adj .entry) }) start n ⌝ }
 {
     let mut w = Wave {
         front: sets::with_mark(0, start),

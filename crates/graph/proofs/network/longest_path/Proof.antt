@@ -3,7 +3,9 @@ use Prim.Native.Nat.{_≤_, _-_, max}
 use native.Mathlib.Omega.{arith}
 use borrow.Author.Needs.{needs}
 use Rattle.loops.specs.Upto.{upto, upto-none, upto-turn, upto-all}
+use Rattle.graph.specs.declared.network.Wave.{Wave}
 use Rattle.graph.specs.Paths.{farthest, diameterOf}
+use Rattle.graph.proofs.Spreads.{going}
 use Rattle.graph.proofs.network.longest_path.Statement.{statement}
 use Rattle.graph.proofs.network.longest_path.Tie as tie
 
@@ -28,5 +30,5 @@ longest-path-spec =
     (λ c κs. search needs)
     (λ c. search needs)
     (λ c. search needs)
-    (λ c. (omega arith, upto-turn (λ j e. max e (farthest (record { n = c .before .before .before .before .args .n; adj = c .before .before .before .before .args .adj .now }) j (c .before .before .before .before .args .n))) 0 (c .before .before .before .loop .inv .1) (c .larger .ensures ∙ ap (max (c .before .before .before .loop .d)) (c .before .wave-from .ensures .links))))
+    (λ c. (omega arith, upto-turn (λ j e. max e (farthest (record { n = c .before .before .before .before .args .n; adj = c .before .before .before .before .args .adj .now }) j (c .before .before .before .before .args .n))) 0 (c .before .before .before .loop .inv .1) (c .larger .ensures ∙ ap (max (c .before .before .before .loop .d)) (ap (λ (w : Wave). w .links) (c .before .wave-from .ensures) ∙ going (record { n = c .before .before .before .before .args .n; adj = c .before .before .before .before .args .adj .now }) _ (c .before .before .before .before .pre) (c .before .before .loop-test .taken) _ .links))))
     returns)

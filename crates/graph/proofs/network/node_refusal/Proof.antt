@@ -1,5 +1,4 @@
 use mathlib.Core.Path.{sym, _∙_}
-use native.Mathlib.Omega.{arith}
 use borrow.Author.Needs.{needs}
 use Rattle.graph.proofs.Rules.{node-refused, node-far, node-ok}
 use Rattle.graph.proofs.network.node_refusal.Statement.{statement}

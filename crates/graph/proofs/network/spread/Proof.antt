@@ -6,7 +6,8 @@ use borrow.Author.Needs.{needs}
 use Rattle.marks.specs.Laws.{has-none}
 use Rattle.marks.specs.Sets.{lowest-lt}
 use Rattle.marks.specs.Marks.{has, countOf}
-use Rattle.graph.proofs.Spreads.{spread-done, leads, spread-turn, spread-less}
+use Rattle.graph.specs.Waves.{leads}
+use Rattle.graph.proofs.Spreads.{spread-done, spread-turn, spread-less}
 use Rattle.graph.proofs.network.spread.Statement.{statement}
 use Rattle.graph.proofs.network.spread.Tie as tie
 

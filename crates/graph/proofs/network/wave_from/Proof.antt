@@ -1,20 +1,35 @@
-use mathlib.Core.Path.{subst, ap, refl, _∙_}
+use mathlib.Core.Path.{_≡_, subst, sym, ap, _∙_}
 use mathlib.Core.Bool.{Bool, not, _&&_}
-use Prim.Native.Nat.{ℕ, _≤_, _-_}
+use Prim.Native.Nat.{ℕ, _+_, _≤_, _<_, _-_}
 use native.Mathlib.Nat.{le-antisymm}
+use native.Mathlib.Numerals.{add-one}
 use native.Mathlib.Omega.{arith}
 use lib.Dec.{eqb}
 use borrow.Author.Needs.{needs}
-use Rattle.graph.specs.Waves.{Swept}
-use Rattle.graph.proofs.Spreads.{Going, going-start, going-step, going-ends}
+use Rattle.graph.specs.declared.network.NetworkGraph.{NetworkGraph}
+use Rattle.graph.specs.declared.network.Wave.{Wave}
+use Rattle.graph.specs.Waves.{stepOf, waveOf}
+use Rattle.graph.proofs.Spreads.{start-is, wave-over}
 use Rattle.graph.proofs.network.wave_from.Statement.{statement}
 use Rattle.graph.proofs.network.wave_from.Tie as tie
 
 abbrev Inv-loop : tie.InvT-loop
-Inv-loop adj n start w₀ k₀ w k = (k ≤ n) × Going (record { n = n; adj = adj }) start k w
+Inv-loop adj n start w₀ k₀ w k = (k ≤ n) × (w ≡ waveOf (record { n = n; adj = adj }) start k)
 
 abbrev μ-loop : tie.MeasureT-loop
 μ-loop adj n start w₀ k₀ w k = n - k
+
+-- one step more
+further : (g : NetworkGraph) (i k : ℕ) (w r : Wave) → w ≡ waveOf g i k → r ≡ stepOf (g .adj) k w → r ≡ waveOf g i (k + 1)
+unfolding waveOf
+further g i k w r e s = rw (add-one k) (s ∙ ap (stepOf (g .adj) k) e)
+
+-- the first empty front is the last
+ended : (g : NetworkGraph) (i k : ℕ) (w : Wave) → g .n ≤ 64 → i < g .n → k ≤ g .n → w ≡ waveOf g i k → w .front ≡ 0 → w ≡ waveOf g i (g .n)
+ended g i k w size inside l e z =
+    let front : waveOf g i k .front ≡ 0 = sym (ap (λ (x : Wave). x .front) e) ∙ z in
+    let n : k + (g .n - k) ≡ g .n = omega arith in
+    e ∙ sym (subst (λ (x : ℕ). waveOf g i x ≡ waveOf g i k) n (wave-over g i size inside k front (g .n - k)))
 
 pub wave-from-spec : {M : Type 1} → statement M
 wave-from-spec =
@@ -25,10 +40,10 @@ wave-from-spec =
     (λ c κs. search needs)
     (λ c κs. search needs)
     (λ c κs. search needs)
-    (λ c. (omega arith, going-start (record { n = c .before .before .before .args .n; adj = c .before .before .before .args .adj .now }) _ (c .before .before .before .pre .0) _ (c .before .before .before .pre .1) (omega arith) (c .before .before .with-mark .ensures) (λ j. c .without-mark .ensures j ∙ ap (λ (t : Bool). t && not (eqb j (c .before .before .before .args .start))) (c .before .first-marks .ensures j)) refl))
-    (λ c. going-ends (record { n = c .before .before .before .before .before .before .before .args .n; adj = c .before .before .before .before .before .before .before .args .adj .now }) _ (c .before .before .before .before .before .before .before .pre .0) _ _ (c .before .before .before .before .before .before .before .pre .1) (c .before .before .before .loop .inv .1) (c .if1 .taken) (c .before .before .before .loop .inv .0))
+    (λ c. (omega arith, start-is (record { n = c .before .before .before .args .n; adj = c .before .before .before .args .adj .now }) _ _ _ (c .before .before .before .pre .0) (omega arith) (omega arith) (c .before .before .with-mark .ensures) (λ j. c .without-mark .ensures j ∙ ap (λ (t : Bool). t && not (eqb j (c .before .before .before .args .start))) (c .before .first-marks .ensures j))))
+    (λ c. ended (record { n = c .before .before .before .before .before .before .before .args .n; adj = c .before .before .before .before .before .before .before .args .adj .now }) _ _ _ (c .before .before .before .before .before .before .before .pre .0) (c .before .before .before .before .before .before .before .pre .1) (c .before .before .before .loop .inv .0) (c .before .before .before .loop .inv .1) (c .if1 .taken))
     (λ c κs. search needs)
     (λ c. search needs)
     (λ c. search needs)
-    (λ c. (omega arith, going-step (record { n = c .before .before .before .before .before .before .before .before .args .n; adj = c .before .before .before .before .before .before .before .before .args .adj .now }) _ (c .before .before .before .before .before .before .before .before .pre .0) _ _ _ (c .before .before .before .before .loop .inv .1) (c .wave-step .ensures)))
-    (λ c. subst (λ (m : ℕ). Swept (record { n = c .before .before .before .before .before .args .n; adj = c .before .before .before .before .before .args .adj .now }) (c .before .before .before .before .before .args .start) m (c .before .loop .w)) (le-antisymm (c .before .loop .inv .0) (c .loop-test .left)) (c .before .loop .inv .1 .swept)))
+    (λ c. (omega arith, further (record { n = c .before .before .before .before .before .before .before .before .args .n; adj = c .before .before .before .before .before .before .before .before .args .adj .now }) _ _ _ _ (c .before .before .before .before .loop .inv .1) (c .wave-step .ensures)))
+    (λ c. subst (λ (m : ℕ). c .before .loop .w ≡ waveOf (record { n = c .before .before .before .before .before .args .n; adj = c .before .before .before .before .before .args .adj .now }) (c .before .before .before .before .before .args .start) m) (le-antisymm (c .before .loop .inv .0) (c .loop-test .left)) (c .before .loop .inv .1)))

@@ -1,5 +1,4 @@
 use mathlib.Core.Path.{sym, subst, _∙_}
-use native.Mathlib.Omega.{arith}
 use borrow.Author.Needs.{needs}
 use Rattle.graph.proofs.Answers.{length-refused, length-given}
 use Rattle.graph.proofs.Rules.{graph-parts}
