@@ -1,7 +1,7 @@
 -- A stretch of a capture round in which nobody acts: each slot of it is `idled`, and so are all of them together. Assumes nothing.
-use Prim.Native.Nat.{ℕ, zero, suc, _+_, _-_, _%_, _^_, _≤_, _<_}
+use Prim.Native.Nat.{ℕ, suc, _+_, _-_, _^_, _≤_, _<_}
 use mathlib.Core.Bool.{Bool, true, false, true≢false, _&&_}
-use mathlib.Core.List.{List, []}
+use mathlib.Core.List.{List}
 use mathlib.Core.Path.{_≡_, refl, sym, ap, _∙_}
 use native.Mathlib.Omega.{arith}
 use lib.Dec.{ltb}
@@ -13,8 +13,8 @@ use Rattle.loops.specs.Pick.{either}
 use Rattle.loops.specs.Upto.{upto-holds, upto-same}
 use Rattle.loops.specs.Downto.{downto}
 use Rattle.loops.specs.Each.{each}
-use Rattle.loops.specs.Runs.{go, runs-turn, told-turn}
-use Rattle.loops.specs.Leaps.{Leaps, runs-leap, told-leap}
+use Rattle.loops.specs.Runs.{go}
+use Rattle.loops.specs.Leaps.{Leaps}
 use Rattle.marks.specs.Marks.{has, countOf}
 use Rattle.marks.specs.Laws.{has-none}
 use Rattle.marks.specs.Sets.{has-marks, and-true}
@@ -26,7 +26,6 @@ use Rattle.merges.specs.declared.merging.Merged.{Merged}
 use Rattle.engines.specs.Clamp.{atMost64}
 use Rattle.engines.specs.Words.{shuffled}
 use Rattle.engines.specs.Nodes.{noNode, isListen, isFlood, listens, floods, setsOf, ticked, tickedAll}
-use Rattle.engines.specs.Rows.{isDue, nextRow}
 use Rattle.capture.specs.Plan.{timedOut, tossed1, tossAt, coinsOf, noteAt, sendersOf, unheard, firstKept, heardFrom, captureOf, whom, tallied, captureAt, noneYet, capturesOf, planAfter, planOf}
 use Rattle.capture.specs.Turns.{nextState, turned, turnOf, turnAt, turnedAll, countedSlot}
 use Rattle.capture.specs.Ce.{sentAt, sentOf, hearingOf, toldAt, toldAll}

@@ -1,14 +1,12 @@
 -- Each way out of a capture round, told from what its tests found. Assumes nothing.
-use mathlib.Core.Path.{_≡_, refl, sym, ap, _∙_}
-use mathlib.Core.Bool.{Bool, true, false}
+use mathlib.Core.Path.{_≡_, sym, ap, _∙_}
+use mathlib.Core.Bool.{Bool, false}
 use mathlib.Core.List.{List}
 use Prim.Native.Nat.{ℕ, _+_, _*_, _≤_}
 use native.Mathlib.Omega.{arith}
-use lib.Dec.{eqb}
 use lib.ListN.{length}
 use lib.Seq.{sets}
 use borrow.Author.Tests.{eq-eqb, ne-eqb}
-use Rattle.loops.specs.Pick.{either}
 use Rattle.engines.specs.Network.{longRefusal, lateOf}
 use Rattle.engines.specs.Rounds.{dueIn, Surveyed}
 use Rattle.engines.specs.declared.network.RoundConf.{RoundConf}

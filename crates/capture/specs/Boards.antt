@@ -15,15 +15,13 @@ use Rattle.packets.specs.Writing.{dataLen, partsLen}
 use Rattle.packets.specs.declared.Data.{Data}
 use Rattle.packets.specs.declared.TwoPcPhase.{TwoPcPhase}
 use Rattle.packets.specs.declared.TwoPcPhase.the-variants.{Prepare, Committed, Aborted}
-use Rattle.merges.specs.Votes.{noOf}
-use Rattle.merges.specs.Merging.{noPayload, unanimousOf, canSleepOf, mergeOf, redundant}
+use Rattle.merges.specs.Merging.{noPayload, unanimousOf, canSleepOf}
 use Rattle.merges.specs.Slips.{packetOf}
 use Rattle.merges.specs.declared.votes.Voting.{Voting}
 use Rattle.merges.specs.declared.merging.Slip.{Slip}
 use Rattle.merges.specs.declared.merging.Held.{Held}
 use Rattle.merges.specs.declared.merging.Held.the-variants.{Empty, Unreadable, Packet}
 use Rattle.merges.specs.declared.merging.Payload.{Payload}
-use Rattle.merges.specs.declared.merging.Merged.{Merged}
 use Rattle.engines.specs.Clamp.{atMost64}
 use Rattle.engines.specs.Marked.{overMarks, withMark, place}
 use Rattle.engines.specs.Columns.{cell, raisedBy, storedAs, rowPut}

@@ -1,11 +1,9 @@
 -- RULES none (see section 8.2), over several slots at once: when nobody acts in them, and what they come to. No rule
 -- is said here. Assumes nothing.
-use Prim.Native.Nat.{ℕ, _+_, _-_, _^_, _≤_, _<_}
+use Prim.Native.Nat.{ℕ, _+_, _-_, _≤_, _<_}
 use mathlib.Core.Bool.{true, false}
-use mathlib.Core.List.{List, _++_}
 use mathlib.Core.Path.{_≡_}
-use lib.ListN.{length, getD}
-use Rattle.loops.specs.Runs.{runs}
+use lib.ListN.{getD}
 use Rattle.merges.specs.Merging.{noPayload, canSleepOf, networkGoalOf}
 use Rattle.engines.specs.Clamp.{atMost64}
 use Rattle.engines.specs.Nodes.{noNode, isListen, setsOf}

@@ -2,7 +2,7 @@
 -- holds. Assumes nothing.
 use Prim.Native.Nat.{ℕ, _+_, _≤_, _<_}
 use mathlib.Core.Bool.{Bool, true, _&&_}
-use mathlib.Core.List.{List, []}
+use mathlib.Core.List.{List}
 use mathlib.Core.Path.{_≡_, refl, sym, ap₂, subst}
 use lib.ListN.{length, take, drop}
 use lib.Seq.{take-at}

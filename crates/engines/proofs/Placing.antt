@@ -1,22 +1,10 @@
 -- A row written into the part that is lent is a row behind the rows used; and refusal 17 by quotients. Assumes nothing.
 use Prim.Native.Nat.{ℕ, _-_, _*_, _/_, _≤_, _<_}
-use mathlib.Core.Bool.{Bool, true, false}
-use mathlib.Core.List.{List}
-use mathlib.Core.Path.{_≡_, refl}
-use lib.ListN.{length}
-use lib.Seq.{sets, length-sets}
+use mathlib.Core.Bool.{true, false}
+use mathlib.Core.Path.{_≡_}
 use native.Mathlib.Omega.{arith}
 use borrow.Author.Tests.{lt-ltb, le-ltb}
-use Rattle.engines.specs.Rows.{cells, putRow, rowsRefused}
-use Rattle.engines.specs.declared.rows.Row.{Row}
-
-pub put-length : (l : List ℕ) (r : Row) → length (putRow l r) ≡ length l
-unfolding putRow
-put-length l r = by (lib.Dec.ltb (length l) 5)
-  where
-    by : (b : Bool) → length (Rattle.loops.specs.Pick.either b l (sets l 0 (cells r))) ≡ length l
-    by true = refl
-    by false = length-sets l 0 (cells r)
+use Rattle.engines.specs.Rows.{rowsRefused}
 
 module _ (numbers used due : ℕ) where
   pub refused-used : numbers / 5 < used → true ≡ rowsRefused numbers used due

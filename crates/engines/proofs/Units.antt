@@ -1,6 +1,6 @@
 -- A unit is the fraction that RULES 3.2 names, and a frame is lost if that fraction lies below the loss
 -- (specs/Exact). Assumes nothing.
-use Prim.Native.Nat.{ℕ, _+_, _-_, _*_, _/_, _^_, _≤_, _<_, zero-le}
+use Prim.Native.Nat.{ℕ, _+_, _-_, _*_, _^_, _≤_, _<_, zero-le}
 use native.Mathlib.Nat.{mul-one, one-mul, zero-mul, mul-assoc, mul-comm, mul-left-comm, mul-right-comm, mul-pos}
 use native.Mathlib.Nat.{eq-of-mul-eq-mul-right, lt-of-lt-of-le, lt-of-not-le, not-le-of-lt}
 use native.Mathlib.Omega.{arith}

@@ -2,12 +2,12 @@
 -- of round move, and the rules that both kinds of round share. Assumes nothing.
 use mathlib.Core.Bool.{Bool}
 use mathlib.Core.List.{List, []}
-use Prim.Native.Nat.{ℕ, _+_, _*_}
+use Prim.Native.Nat.{ℕ, _+_}
 use lib.Dec.{eqb, leb, ltb}
 use lib.ListN.{length, replicate}
 use lib.Seq.{sets}
 use Rattle.loops.specs.Pick.{either}
-use Rattle.limits.specs.Limits.{lastSlot, rowCells}
+use Rattle.limits.specs.Limits.{lastSlot}
 use Rattle.limits.specs.Refusals.{tooLong, wordsShort, rowsShort}
 use Rattle.engines.specs.Metrics.{noMetrics}
 use Rattle.engines.specs.Nodes.{inc, noNode, tickedAll}

@@ -1,6 +1,6 @@
 -- RULES none (see sections 7.1 and 8.2), over several slots at once: a stretch of slots in which only counts change.
 -- No rule is said here; what is said is when slots may be taken together, and what they come to. Assumes nothing.
-use Prim.Native.Nat.{ℕ, _+_, _-_, _%_, _^_, _<_}
+use Prim.Native.Nat.{ℕ, _-_, _^_, _<_}
 use mathlib.Core.List.{List}
 use mathlib.Core.Path.{_≡_}
 use lib.ListN.{length}

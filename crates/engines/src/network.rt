@@ -1,7 +1,6 @@
 // RULES 7.1, 7.3 and 7.4. What both kinds of room have and both kinds of round move, and what a round goes by.
 ghost use mathlib.Core.Path.{_≡_};
 ghost use lib.ListN.{length};
-ghost use Rattle.loops.specs.Pick.{either};
 ghost use Rattle.engines.specs.Network.{newNetwork, ticking, longRefusal, lateOf, dueRow, slotRow, writtenAt, writtenEnd};
 use super::metrics::MetricsCollector;
 use super::node;

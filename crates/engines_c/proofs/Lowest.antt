@@ -8,7 +8,7 @@ use native.Mathlib.Nat.{eq-zero-or-pos, lt-irrefl}
 use native.Mathlib.Omega.{arith}
 use lib.Dec.{eqb, leb, ltb}
 use lib.ListN.{length, getD}
-use borrow.Author.Tests.{eq-eqb, ne-eqb, le-leb, lt-leb, eqb-true, eqb-false}
+use borrow.Author.Tests.{eq-eqb, ne-eqb, le-leb, lt-leb}
 use Rattle.limits.specs.Limits.{lastSlot}
 use Rattle.limits.specs.Refusals.{badPositions, badLinks, badLoss, noInterval, noPosition, badPacket}
 use Rattle.limits.specs.Refusals.{tooLong, wordsShort, rowsShort}

@@ -7,7 +7,7 @@ use lib.Dec.{eqb}
 use lib.ListN.{length, getD, set}
 use lib.Seq.{sets}
 use Rattle.loops.specs.Pick.{either}
-use Rattle.graph.specs.Console.{first, unless}
+use Rattle.graph.specs.Console.{first}
 use Rattle.graph.proofs.Entries.{first-here, first-next, unless-refused, unless-done}
 use Rattle.engines.specs.declared.network.Network.{Network}
 use Rattle.engines.specs.declared.network.RoundConf.{RoundConf}

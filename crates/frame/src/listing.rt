@@ -1,14 +1,13 @@
 // RULES 14.1. A frame line in, its listing line out.
 ghost use mathlib.Core.Bool.{true};
 ghost use mathlib.Core.Path.{_≡_};
-ghost use mathlib.Core.List.{[], _∷_, _++_};
 ghost use Prim.Native.Nat.{_+_, _*_, _≤_, _<_};
 ghost use lib.ListN.{length};
 ghost use Rattle.limits.specs.Refusals.{noFit};
 ghost use Rattle.loops.specs.Table.{tabulate};
-ghost use Rattle.texts.specs.Put.{Put, Room, written};
+ghost use Rattle.texts.specs.Put.{Put, written};
 ghost use Rattle.frame.specs.Bounds.{frameWords, listingBytes};
-ghost use Rattle.frame.specs.Lines.{numberAt, allHex, nameLength, frameOf};
+ghost use Rattle.frame.specs.Lines.{numberAt, allHex};
 ghost use Rattle.frame.specs.Listing.{outcomeOf, nameOf, sentText, refusedText, textOf, listedOf, wordsIn, wordsAfter, listedIn};
 use crate::bounds::LISTING;
 use crate::bounds::WORDS;

@@ -9,7 +9,6 @@ use lib.Dec.{leb}
 use lib.ListN.{length, take, drop, length-drop, drop-of-length-le}
 use lib.Seq.{drop-drop, take-all}
 use borrow.Author.Tests.{le-leb, lt-leb}
-use Rattle.loops.specs.Pick.{either}
 use Rattle.texts.specs.Put.{Put, written, put-as, put-more, put-none}
 use Rattle.frame.specs.Bounds.{frameWords, listingBytes, endedBytes}
 use Rattle.frame.specs.Listing.{listingOf, hasRoom, listedOf, wordsIn, wordsAfter, listedIn}

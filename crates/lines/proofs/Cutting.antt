@@ -11,7 +11,7 @@ use lib.Seq.{take-all, take-take}
 use Rattle.loops.specs.Pick.{either}
 use Rattle.frame.proofs.Texts.{long-refused}
 use Rattle.frame.specs.Bounds.{frameDigits, endedBytes}
-use Rattle.frame.specs.Listing.{listingOf, refusedText}
+use Rattle.frame.specs.Listing.{listingOf}
 use Rattle.lines.specs.Input.{lineEnd, lastOf, linesFrom, endedOf, listedLines, inputListing}
 use Rattle.lines.specs.Feeding.{Feed, keptBytes, endsLine, isFull, feedBy, keptOf}
 use Rattle.lines.specs.Reading.{Run, joined, AnyCut, LongRefused}

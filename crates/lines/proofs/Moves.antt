@@ -1,13 +1,13 @@
 -- Bytes that are moved to the front. Assumes nothing.
 use mathlib.Core.List.{List, [], _∷_, _++_}
-use mathlib.Core.Path.{_≡_, refl, sym, ap, _∙_}
-use Prim.Native.Nat.{ℕ, zero, suc, _+_, _-_, min, _≤_, _<_}
+use mathlib.Core.Path.{_≡_, sym, ap, _∙_}
+use Prim.Native.Nat.{ℕ, _+_, _-_, min, _≤_, _<_}
 use native.Mathlib.Decide.{decLe}
 use native.Mathlib.Nat.{le-antisymm}
 use native.Mathlib.Numerals.{add-one}
 use native.Mathlib.Omega.{arith}
 use lib.ListN.{length, take, drop, getD, set, length-take, length-drop, take-append-drop, drop-of-length-le}
-use lib.Seq.{length-take-le, take-suc, take-all, take-length, getD-append-add, getD-drop, take-nil}
+use lib.Seq.{length-take-le, take-suc, take-all, take-length, getD-append-add, getD-drop}
 use Rattle.lines.specs.Feeding.{keptFrom, keptIn}
 use Rattle.texts.specs.Put.{Put, written, put-none, put-as, put-more, put-byte, written-nil}
 

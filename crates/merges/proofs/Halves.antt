@@ -1,7 +1,7 @@
 -- A product's remainder from the products of halves of 32 binary digits.
 -- Assumes nothing.
 use mathlib.Core.Path.{_≡_, ap, _∙_, sym}
-use Prim.Native.Nat.{ℕ, _+_, _*_, _/_, _%_, _^_, _<_, _≤_}
+use Prim.Native.Nat.{ℕ, _+_, _*_, _/_, _%_, _^_, _<_}
 use native.Mathlib.Nat.{mul-le-mul}
 use native.Mathlib.Omega.{arith}
 use Rattle.loops.specs.Wrap.{add64, mul64}

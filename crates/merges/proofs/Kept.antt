@@ -1,6 +1,6 @@
 -- What each step of a merge keeps, the merge keeps.
 -- Assumes nothing.
-use mathlib.Core.Path.{_≡_, refl, sym}
+use mathlib.Core.Path.{_≡_, refl}
 use mathlib.Core.Bool.{true}
 use Prim.Native.Nat.{ℕ}
 use lib.Dec.{ltb}

@@ -3,7 +3,7 @@
 use mathlib.Core.Path.{_≡_, refl, sym, ap, _∙_}
 use mathlib.Core.Bool.{Bool, true, false, _&&_, _||_}
 use mathlib.Core.List.{List, [], _∷_, _++_}
-use Prim.Native.Nat.{ℕ, zero, suc, _+_, _/_, _%_, _^_, _<_, _≤_, max}
+use Prim.Native.Nat.{ℕ, _+_, _/_, _%_, _^_, _<_, _≤_, max}
 use native.Mathlib.Nat.{lt-of-lt-of-le}
 use native.Mathlib.Omega.{arith}
 use lib.Dec.{ltb, eqb}
@@ -18,13 +18,11 @@ use Rattle.texts.specs.ListLaws.{Every, none, more}
 use Rattle.texts.specs.Put.{written}
 use Rattle.packets.specs.Packets.{ValidBitmap, ValidData, ValidCe, proposalText, proposalData}
 use Rattle.loops.specs.Wrap.{add64}
-use Rattle.merges.specs.Merging.{Draft, Noes, entry, filledOf, markedOf, onlyOf, joinOf, rankOf, withState, ensureOf, decidedOf, acknowledgedOf, raisedOf, mergeOf, blank, proposalOf}
+use Rattle.merges.specs.Merging.{Draft, entry, filledOf, markedOf, onlyOf, joinOf, rankOf, withState, ensureOf, decidedOf, acknowledgedOf, raisedOf, blank, proposalOf}
 use Rattle.merges.specs.Sound.{MergesValid, ProposesValid}
 use Rattle.packets.specs.declared.TwoPcPhase.{TwoPcPhase}
 use Rattle.packets.specs.declared.Bitmap.{Bitmap}
-use Rattle.packets.specs.declared.Data.{Data}
 use Rattle.packets.specs.declared.CeTwoPcPacket.{CeTwoPcPacket}
-use Rattle.merges.specs.declared.merging.Payload.{Payload}
 use Rattle.merges.proofs.Bitmaps.{and-false}
 use Rattle.merges.proofs.Kept.{merge-keeps, adopted-keeps}
 use Rattle.merges.proofs.Safety.{either-cases}

@@ -1,12 +1,12 @@
 -- Where the marks of a merged packet come from, and that the own is among them.
 -- Assumes nothing.
-use mathlib.Core.Path.{_≡_, refl, sym, _∙_, ap}
+use mathlib.Core.Path.{_≡_, refl, _∙_}
 use mathlib.Core.Bool.{Bool, true, false, _&&_, _||_}
 use mathlib.Core.Logic.{_⊎_, inl, inr}
-use Prim.Native.Nat.{ℕ, _<_, _≤_, max}
+use Prim.Native.Nat.{ℕ, _<_, _≤_}
 use native.Mathlib.Omega.{arith}
 use lib.Dec.{ltb, eqb}
-use borrow.Author.Tests.{lt-ltb, eq-eqb, ltb-true}
+use borrow.Author.Tests.{lt-ltb, eq-eqb}
 use Rattle.marks.specs.Marks.{has, marks}
 use Rattle.marks.specs.Sets.{true-and}
 use Rattle.merges.specs.Merging.{
@@ -43,9 +43,7 @@ use Rattle.merges.specs.Merging.{
 use Rattle.merges.specs.Sound.{MarksFrom, OwnMark}
 use Rattle.packets.specs.declared.TwoPcPhase.{TwoPcPhase}
 use Rattle.packets.specs.declared.TwoPcPhase.the-variants.{Prepare, Committed, Aborted}
-use Rattle.packets.specs.declared.Bitmap.{Bitmap}
 use Rattle.packets.specs.declared.CeTwoPcPacket.{CeTwoPcPacket}
-use Rattle.merges.specs.declared.merging.MergeResult.{MergeResult}
 use Rattle.merges.specs.declared.merging.MergeResult.the-variants.{NewInfo}
 use Rattle.merges.specs.declared.merging.Held.{Held}
 use Rattle.merges.specs.declared.merging.Held.the-variants.{Empty, Unreadable, Packet}

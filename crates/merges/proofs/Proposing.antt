@@ -2,20 +2,18 @@
 -- Assumes nothing.
 use mathlib.Core.Path.{_≡_, refl, sym, ap, ap₂, _∙_}
 use mathlib.Core.Bool.{Bool, true, false, _&&_, _||_}
-use Prim.Native.Nat.{ℕ, zero, suc, _^_, _<_, _≤_, max}
+use Prim.Native.Nat.{ℕ, _<_, max}
 use native.Mathlib.Omega.{arith}
-use lib.Dec.{leb, ltb, eqb}
+use lib.Dec.{ltb, eqb}
 use borrow.Author.Tests.{lt-ltb, le-leb, eq-eqb, ne-eqb, eqb-true, eqb-false}
 use Rattle.loops.specs.Pick.{either}
 use Rattle.marks.specs.Marks.{has, marks, allOf}
 use Rattle.marks.specs.Laws.{has-none}
 use Rattle.marks.specs.Sets.{marks-is, marks-ext, has-marks, true-and, all-found, all-left}
 use Rattle.loops.specs.Wrap.{add64}
-use Rattle.merges.specs.Merging.{Noes, filledOf, markedOf, onlyOf, unanimousOf, withState, ensureOf, decidedOf, acknowledgedOf, voicedOf, settledOf, settled, adoptedOf, blank, proposalOf}
+use Rattle.merges.specs.Merging.{filledOf, markedOf, onlyOf, unanimousOf, withState, ensureOf, decidedOf, acknowledgedOf, voicedOf, settledOf, settled, adoptedOf, blank, proposalOf}
 use Rattle.merges.specs.Sound.{ProposalSays}
-use Rattle.packets.specs.declared.TwoPcPhase.{TwoPcPhase}
 use Rattle.packets.specs.declared.TwoPcPhase.the-variants.{Prepare, Committed, Aborted}
-use Rattle.packets.specs.declared.Bitmap.{Bitmap}
 use Rattle.packets.specs.declared.CeTwoPcPacket.{CeTwoPcPacket}
 use Rattle.merges.proofs.Bitmaps.{and-false, has-word}
 

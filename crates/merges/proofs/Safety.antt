@@ -1,12 +1,11 @@
 -- Merging and proposing keep every packet sound.
 -- Assumes nothing.
 use mathlib.Core.Path.{_≡_, refl, sym, _∙_, ap, subst}
-use mathlib.Core.Bool.{Bool, true, false, not, _&&_, _||_, true≢false, false≢true}
-use mathlib.Core.Logic.{_⊎_, inl, inr}
-use Prim.Native.Nat.{ℕ, _<_, _≤_, _^_}
+use mathlib.Core.Bool.{Bool, true, false, _&&_, _||_, false≢true}
+use Prim.Native.Nat.{ℕ, _<_}
 use native.Mathlib.Omega.{arith}
 use lib.Dec.{leb, ltb, eqb}
-use borrow.Author.Tests.{ltb-true, ltb-false, leb-true, eqb-true, lt-ltb}
+use borrow.Author.Tests.{ltb-false, leb-true, eqb-true, lt-ltb}
 use Rattle.loops.specs.Pick.{either}
 use Rattle.marks.specs.Marks.{has, marks, allOf}
 use Rattle.marks.specs.Laws.{has-none}

@@ -1,7 +1,7 @@
 -- Within a term and a phase a merge loses no mark.
 -- Assumes nothing.
 use mathlib.Core.Path.{_≡_, refl, sym, ap, _∙_}
-use mathlib.Core.Bool.{Bool, true, false, _&&_, _||_}
+use mathlib.Core.Bool.{Bool, true, _&&_, _||_}
 use Prim.Native.Nat.{ℕ, _<_, _≤_, max}
 use native.Mathlib.Nat.{le-antisymm}
 use native.Mathlib.Omega.{arith}
@@ -43,7 +43,7 @@ use Rattle.merges.specs.declared.merging.Payload.{Payload}
 use Rattle.merges.specs.declared.merging.Merged.{Merged}
 use Rattle.merges.proofs.Bitmaps.{has-word}
 use Rattle.merges.proofs.Safety.{either-cases}
-use Rattle.merges.proofs.Growth.{Rose, rose-trans, voiced-rose, settled-rose, ensure-rose, adopted-rose, raised-rose, own-rose}
+use Rattle.merges.proofs.Growth.{Rose, rose-trans, settled-rose, ensure-rose, adopted-rose, raised-rose, own-rose}
 
 -- ---- one bitmap
 in-test : (len : ℕ) (f : ℕ → Bool) (i : ℕ) → i < 64 → i < len → f i ≡ true → (ltb i len && has (marks 64 f) i) ≡ true

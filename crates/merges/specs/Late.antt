@@ -2,7 +2,6 @@
 -- held somewhere before. `LateFrames` is said for any votes, `LateInRoom` for those of a room.
 -- Assumes nothing: these are definitions and statements, which proofs/Late.antt proves.
 use mathlib.Core.Path.{_≡_}
-use mathlib.Core.Bool.{Bool, true, false}
 use mathlib.Core.List.{List, [], _∷_}
 use Prim.Native.Nat.{ℕ}
 use lib.Dec.{ltb, eqb}

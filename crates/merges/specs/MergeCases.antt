@@ -1,7 +1,7 @@
 -- Cases of votes, merges, outcomes and late copies: those of RULES 4.1, 6.9 and 11.12, and small ones that tell the
 -- rules from their neighbours. Assumes nothing: these are statements, proved by computing in proofs/MergeCases.antt.
 use mathlib.Core.Path.{_≡_}
-use mathlib.Core.Bool.{Bool, true, false}
+use mathlib.Core.Bool.{true, false}
 use mathlib.Core.List.{List, [], _∷_}
 use Prim.Native.Nat.{ℕ}
 use lib.Dec.{eqb}

@@ -19,7 +19,6 @@ use Rattle.packets.specs.declared.TwoPcPhase.the-variants.{Prepare, Committed, 
 use Rattle.packets.specs.declared.Bitmap.{Bitmap}
 use Rattle.packets.specs.declared.CeRead.{CeRead}
 use Rattle.packets.specs.declared.CeTwoPcPacket.{CeTwoPcPacket}
-use Rattle.merges.specs.declared.merging.MergeResult.{MergeResult}
 use Rattle.merges.specs.declared.merging.MergeResult.the-variants.{Redundant, NewInfo}
 use Rattle.merges.specs.declared.merging.ProposalOutcome.{ProposalOutcome}
 use Rattle.merges.specs.declared.merging.ProposalOutcome.the-variants as outcome

@@ -2,13 +2,12 @@
 -- agreement rests. Assumes nothing: these are definitions and statements. They are proved in Safety, Growth, Marking,
 -- Staying, Limits and Proposing of proofs/.
 use mathlib.Core.Path.{_≡_}
-use mathlib.Core.Bool.{Bool, true, false, not, _&&_, _||_}
+use mathlib.Core.Bool.{true, false}
 use mathlib.Core.Logic.{_⊎_}
 use Prim.Native.Nat.{ℕ, _<_, _≤_}
-use lib.Dec.{ltb, eqb}
+use lib.Dec.{eqb}
 use Rattle.limits.specs.Limits.{positions}
 use Rattle.loops.specs.Pick.{either}
-use Rattle.marks.specs.Marks.{has}
 use Rattle.packets.specs.Packets.{ValidCe}
 use Rattle.loops.specs.Wrap.{add64}
 use Rattle.merges.specs.Merging.{Noes, entry, onlyOf, rankOf, withState, adoptedOf, newInfo, mergeOf, blank, proposalOf}

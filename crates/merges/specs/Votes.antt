@@ -1,7 +1,7 @@
 -- How a position votes, by RULES 4.1.
 -- Assumes nothing: these are definitions.
-use mathlib.Core.Bool.{Bool, true, false}
-use Prim.Native.Nat.{ℕ, _+_, _*_, _%_, _^_}
+use mathlib.Core.Bool.{Bool, false}
+use Prim.Native.Nat.{ℕ, _%_}
 use lib.IntN.{pos}
 use lib.Ieee.{Float, binary64, div, ofInt, ofBits, lt, le}
 use Rattle.loops.specs.Pick.{either}

@@ -10,7 +10,7 @@ use packets::Data;
 use packets::TwoPcPhase;
 use packets::two_pc_ce;
 ghost use mathlib.Core.Path.{_≡_};
-ghost use mathlib.Core.Bool.{_&&_, _||_};
+ghost use mathlib.Core.Bool.{_&&_};
 ghost use Prim.Native.Nat.{ℕ, max};
 ghost use lib.Dec.{ltb};
 ghost use Rattle.marks.specs.Marks.{has, marks};

@@ -1,6 +1,5 @@
 // RULES 4.1. How a position votes on a proposal: by its hash with the term, so that whoever asks gets the same answer.
 ghost use mathlib.Core.Path.{_≡_};
-ghost use lib.Ieee.{binary64};
 ghost use Rattle.merges.specs.Votes.{hashOf, shareOf, noOf};
 ghost use Rattle.loops.specs.Wrap.{mul64};
 

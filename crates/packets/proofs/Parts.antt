@@ -14,17 +14,16 @@ use Rattle.texts.specs.Put.{written, length-written}
 use Rattle.texts.specs.Decimal.{decimal}
 use Rattle.texts.specs.Literals.{startsWith, litAt, Has}
 use Rattle.texts.specs.LiteralLaws.{has-as, lit-has}
-use Rattle.texts.specs.Readers.{Found, got, bad, Reader, map, isDigit, headDigit, numAt, boolText, boolAt, nullText, listText, listAt, stored, Reads}
+use Rattle.texts.specs.Readers.{got, bad, isDigit, headDigit, numAt, boolText, boolAt, nullText, listText, listAt, stored, Reads}
 use Rattle.texts.specs.ReaderLaws.{never, got-value, got-next, reads-as, map-reads, bool-reads, NullOr, is-null, is-some, null-reads}
 use Rattle.texts.specs.NumberLaws.{num-reads, digit-first}
 use Rattle.texts.specs.ListLaws.{Every, every-all, Listed, list-sound, list-complete}
 use Rattle.texts.specs.Stores.{storeMark, storeByte}
-use Rattle.texts.specs.StoreLaws.{wordOf, marks-of-word, word-lt, word-of-marks, stored-word, stored-bytes}
+use Rattle.texts.specs.StoreLaws.{marks-of-word, word-lt, word-of-marks, stored-word, stored-bytes}
 use Rattle.packets.specs.Packets.{mostBytes, phaseText, bitmapText, dataText, txText, stateText, ValidBitmap, ValidData, ValidTx}
 use Rattle.packets.specs.Reading.{phaseAt, bitmapOf, bitmapAt, dataOf, dataAt, txAt, stateAt}
 use Rattle.packets.specs.declared.TwoPcPhase.{TwoPcPhase}
 use Rattle.packets.specs.declared.TwoPcPhase.the-variants.{Prepare, Committed, Aborted}
-use Rattle.packets.specs.declared.Bitmap.{Bitmap}
 use Rattle.packets.specs.declared.Data.{Data}
 use Rattle.packets.specs.declared.PiggybackTx.{PiggybackTx}
 use Rattle.packets.specs.declared.PiggybackTx.the-variants as tx

@@ -3,20 +3,20 @@
 use mathlib.Core.Path.{_≡_, refl, sym, ap, _∙_, subst}
 use mathlib.Core.Bool.{Bool, true, false}
 use mathlib.Core.List.{List, [], _∷_, _++_, append-assoc, append-nil}
-use Prim.Native.Nat.{ℕ, zero, suc, _+_, _-_, _*_, _^_, _≤_, _<_}
+use Prim.Native.Nat.{ℕ, _+_, _-_, _*_, _^_, _≤_, _<_}
 use native.Mathlib.Omega.{arith}
-use lib.Dec.{T, eqb}
+use lib.Dec.{eqb}
 use borrow.Author.Tests.{eqb-true, eqb-false}
-use lib.ListN.{length, take, drop, length-append}
+use lib.ListN.{length, take, length-append}
 use Rattle.limits.specs.Refusals.{badPacket}
 use Rattle.marks.specs.Marks.{marksOf}
 use Rattle.texts.specs.Decimal.{decimal, decimal-word, decimal-le}
-use Rattle.texts.specs.Readers.{Found, got, bad, on, whole, both, behind, isDigit, headDigit, numAt, boolText, itemsText, listText, Reads}
+use Rattle.texts.specs.Readers.{Found, got, bad, on, whole, isDigit, headDigit, boolText, itemsText, listText, Reads}
 use Rattle.texts.specs.ReaderLaws.{behind-reads, both-reads, bool-reads, whole-sound, whole-complete}
 use Rattle.texts.specs.NumberLaws.{num-reads}
 use Rattle.texts.specs.ListLaws.{Every, none, more}
-use Rattle.texts.specs.Rfc8259.{Tree, Fields, Ws, Token, Chars, Str, Value, Members, Json}
-use Rattle.texts.specs.JsonLaws.{bare, number-of, chars, bool-value, treesOf, list-value}
+use Rattle.texts.specs.Rfc8259.{Tree, Ws, Str, Value, Members, Json}
+use Rattle.texts.specs.JsonLaws.{bare, number-of, chars, bool-value, list-value}
 use Rattle.texts.proofs.Single.{single}
 use Rattle.packets.specs.Packets.{
   phaseText,
@@ -47,7 +47,7 @@ use Rattle.packets.specs.Packets.{
 }
 use Rattle.packets.specs.Reading.{ceFields, cePacket, ceNo, ceYes, ceReadOf, PipelineValues, pipelineFields, pipelinePacket, pipelineNo, pipelineYes, pipelineReadOf}
 use Rattle.packets.specs.Values.{phaseName, numValue, phaseValue, bitmapValue, dataValue, txValue, stateValue, nameTerm, namePhase, nameProposalData, nameFlagsBitmap, nameTransactionId, nameState, nameAbortFlag, nameNackTxId, nameTransactionData, nameSender, namePiggybackTx, namePiggybackState, ceValue, pipelineValue}
-use Rattle.packets.specs.Promises.{Promises, CePromises, PipelinePromises}
+use Rattle.packets.specs.Promises.{CePromises, PipelinePromises}
 use Rattle.packets.proofs.Parts.{phase-reads, bitmap-reads, data-reads, tx-reads, state-reads, full}
 use Rattle.packets.proofs.Texts.{bitmap-len-none, bitmap-len-more, marks-len-le}
 use Rattle.packets.proofs.Writes.{limits-valid, phase-le, bool-le, state-le, ce-length, pipeline-length}

@@ -1,12 +1,12 @@
 -- The data of a proposal: two bytes and a number's digits, of which 32 bytes have room for every word's.
 -- Assumes nothing.
-use mathlib.Core.Path.{_≡_, refl, sym, ap, ap₂, _∙_}
-use mathlib.Core.List.{List, [], _∷_, _++_}
-use Prim.Native.Nat.{ℕ, _+_, _^_, _≤_, _<_}
+use mathlib.Core.Path.{_≡_, ap₂, _∙_}
+use mathlib.Core.List.{List, [], _∷_}
+use Prim.Native.Nat.{ℕ, _+_, _^_, _<_}
 use native.Mathlib.Omega.{arith}
 use lib.ListN.{length, replicate}
 use Rattle.texts.specs.Decimal.{decimal, decimal-word}
-use Rattle.texts.specs.Put.{written, Put, Room, room-next, put-more}
+use Rattle.texts.specs.Put.{Put, Room, room-next, put-more}
 use Rattle.packets.specs.Packets.{proposalText, proposalData}
 use Rattle.packets.specs.declared.Data.{Data}
 

@@ -1,7 +1,7 @@
 -- The text of a packet, by RULES 5.1, 5.2, 5.3 and 5.5: serde_json's compact form, and the packets that have one.
 -- Assumes nothing: these are definitions.
 use mathlib.Core.Path.{_≡_}
-use mathlib.Core.Bool.{Bool, true, false, _&&_}
+use mathlib.Core.Bool.{Bool, _&&_}
 use mathlib.Core.List.{List, [], _∷_, _++_}
 use Prim.Native.Nat.{ℕ, _+_, _^_, _≤_, _<_}
 use lib.Dec.{leb}

@@ -2,7 +2,7 @@
 -- writer writes within the limits. It goes from left to right, field by field. That it takes those texts and no others
 -- is `specs/Promises.antt`. Assumes nothing: these are definitions.
 use mathlib.Core.Bool.{Bool, true, false}
-use mathlib.Core.List.{List, [], _∷_}
+use mathlib.Core.List.{List}
 use Prim.Native.Nat.{ℕ, _+_, _^_}
 use lib.Dec.{leb}
 use lib.ListN.{length, take, replicate}

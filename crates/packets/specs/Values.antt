@@ -1,6 +1,5 @@
 -- RULES 5.3. What a packet's text says, as a JSON value of RFC 8259: an object with exactly these members, in this
 -- order. Assumes nothing: these are definitions.
-use mathlib.Core.Bool.{Bool}
 use mathlib.Core.List.{List, [], _∷_}
 use Prim.Native.Nat.{ℕ}
 use lib.ListN.{take}

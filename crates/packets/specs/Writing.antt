@@ -1,7 +1,7 @@
 -- What the writers answer and leave, by RULES 5.6, and refusals 9 and 10 of RULES 15, for a packet with the text t;
 -- `fine` says that it is within the limits. And how long a capture packet's text is, told from its parts: no rule;
 -- proofs/Lengths has it equal to the text's length. Assumes nothing: these are definitions.
-use mathlib.Core.Bool.{Bool, true, false, _&&_}
+use mathlib.Core.Bool.{Bool, _&&_}
 use mathlib.Core.List.{List}
 use Prim.Native.Nat.{ℕ, _+_, _-_, _*_}
 use lib.Dec.{leb, ltb, eqb}

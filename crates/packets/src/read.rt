@@ -8,7 +8,7 @@ use crate::TwoPcPhase;
 ghost use mathlib.Core.Path.{_≡_};
 ghost use mathlib.Core.Bool.{true, false};
 ghost use mathlib.Core.List.{[], _∷_};
-ghost use Prim.Native.Nat.{ℕ, _+_, _^_, _≤_, _<_};
+ghost use Prim.Native.Nat.{_+_, _^_, _≤_, _<_};
 ghost use lib.ListN.{length, drop};
 ghost use Rattle.texts.specs.Literals.{litAt};
 ghost use Rattle.texts.specs.Readers.{isDigit, startsNum, numAt, boolAt, behind, endsAt, got, bad};

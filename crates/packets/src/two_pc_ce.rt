@@ -14,7 +14,6 @@ use crate::read::PhaseRead;
 use limits::refusals;
 ghost use mathlib.Core.Path.{_≡_};
 ghost use Prim.Native.Nat.{_≤_};
-ghost use lib.ListN.{length};
 ghost use Rattle.limits.specs.Limits.{dataBytes};
 ghost use Rattle.texts.specs.Put.{Put, Room};
 ghost use Rattle.packets.specs.Packets.{ceText, ceWithin, proposalData};

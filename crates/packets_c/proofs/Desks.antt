@@ -1,10 +1,9 @@
 -- The merge on texts, case by case, as the code goes.
 -- Assumes nothing.
-use mathlib.Core.Path.{_≡_, refl, sym, _∙_, ap, subst}
-use mathlib.Core.Bool.{Bool, true, false, _&&_}
+use mathlib.Core.Path.{_≡_, refl, sym, _∙_, ap}
+use mathlib.Core.Bool.{Bool, true, false}
 use mathlib.Core.List.{List}
 use Prim.Native.Nat.{ℕ, _+_}
-use native.Mathlib.Omega.{arith}
 use lib.Dec.{eqb, leb}
 use lib.ListN.{length}
 use borrow.Author.Tests.{eq-eqb, ne-eqb}
@@ -16,7 +15,7 @@ use Rattle.packets.specs.Reading.{ceRead}
 use Rattle.packets.specs.Writing.{refused, wroteOf, leftOf}
 use Rattle.merges.specs.Votes.{noOf}
 use Rattle.merges.specs.Merging.{mergeOf, proposalOf, payloadOf}
-use Rattle.packets_c.specs.Desk.{refusalOf, Desk, rewritten, answered, answer, deskOf, proposeRefusal, proposedOf, proposedLeft, RefusedLeaves}
+use Rattle.packets_c.specs.Desk.{refusalOf, Desk, rewritten, answered, deskOf, proposeRefusal, proposedOf, proposedLeft, RefusedLeaves}
 use Rattle.packets.specs.declared.CeTwoPcPacket.{CeTwoPcPacket}
 use Rattle.packets.specs.declared.CeRead.{CeRead}
 use Rattle.packets.specs.declared.Wrote.{Wrote}

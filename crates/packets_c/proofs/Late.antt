@@ -12,7 +12,7 @@ use Rattle.merges.specs.Votes.{noOf}
 use Rattle.merges.specs.Merging.{payloadOf}
 use Rattle.merges.specs.Sound.{SoundHeld}
 use Rattle.merges.specs.Late.{Event, Propose, Deliver}
-use Rattle.packets_c.specs.Desk.{deskOf, proposedOf, proposedLeft}
+use Rattle.packets_c.specs.Desk.{deskOf, proposedOf}
 use Rattle.packets_c.specs.Late.{
   Place,
   emptied,

@@ -2,7 +2,7 @@
 -- the writer, in that order. Assumes nothing: these are definitions and statements. The statements are proved in Desks
 -- and Texting of proofs/.
 use mathlib.Core.Path.{_≡_}
-use mathlib.Core.Bool.{Bool, true, false, _&&_}
+use mathlib.Core.Bool.{_&&_}
 use mathlib.Core.List.{List}
 use mathlib.Core.Logic.{_⊎_}
 use Prim.Native.Nat.{ℕ, _≤_}
@@ -13,19 +13,15 @@ use Rattle.limits.specs.Limits.{positions, lastTerm}
 use Rattle.limits.specs.Refusals.{badPositions, noPosition, noFit, noTerm}
 use Rattle.loops.specs.Pick.{either}
 use Rattle.packets.specs.Packets.{ceText, ceWithin}
-use Rattle.packets.specs.Reading.{ceRead}
 use Rattle.packets.specs.Writing.{refused, wroteOf, leftOf}
 use Rattle.merges.specs.Votes.{noOf}
 use Rattle.merges.specs.Merging.{mergeOf, proposalOf, payloadOf}
 use Rattle.packets.specs.declared.CeTwoPcPacket.{CeTwoPcPacket}
-use Rattle.packets.specs.declared.CeRead.{CeRead}
 use Rattle.packets.specs.declared.Wrote.{Wrote}
 use Rattle.merges.specs.declared.votes.Voting.{Voting}
 use Rattle.merges.specs.declared.merging.MergeResult.{MergeResult}
 use Rattle.merges.specs.declared.merging.MergeResult.the-variants.{Redundant, NewInfo}
-use Rattle.merges.specs.declared.merging.Held.{Held}
-use Rattle.merges.specs.declared.merging.Held.the-variants.{Empty, Unreadable, Packet}
-use Rattle.merges.specs.declared.merging.Payload.{Payload}
+use Rattle.merges.specs.declared.merging.Held.the-variants.{Packet}
 use Rattle.merges.specs.declared.merging.Merged.{Merged}
 
 -- 2 for n outside 1 to 64, then 8 for a position that is none of them, then 10 for a stated length over its buffer; 0

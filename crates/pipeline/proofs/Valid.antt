@@ -14,7 +14,7 @@ use lib.ListN.{length, getD, set, replicate, length-set}
 use borrow.Author.Tests.{ltb-true, ltb-false, ne-eqb, eqb-true}
 use Rattle.loops.specs.Pick.{either}
 use Rattle.loops.specs.Upto.{upto-holds}
-use Rattle.marks.specs.Marks.{has, marks}
+use Rattle.marks.specs.Marks.{has}
 use Rattle.marks.specs.Laws.{has-out}
 use Rattle.marks.specs.Sets.{and-true, has-marks, marks-is, marks-lt}
 use Rattle.texts.specs.Put.{written}

@@ -2,14 +2,11 @@
 // room is of the other kind, nobody has proposed, or a text does not fit. A reading changes no room.
 ghost use mathlib.Core.Path.{_≡_};
 ghost use Prim.Native.Nat.{_<_};
-ghost use lib.Dec.{eqb};
 ghost use lib.ListN.{getD};
 ghost use Rattle.graph.specs.Links.{isSize, positionRefusal};
 ghost use Rattle.loops.specs.Pick.{either};
-ghost use Rattle.limits.specs.Refusals.{badPositions, noProposal};
+ghost use Rattle.limits.specs.Refusals.{noProposal};
 ghost use Rattle.engines.specs.Metrics.{linkPdr, floodCoverage};
-ghost use Rattle.engines.specs.Nodes.{noNode};
-ghost use Rattle.pipeline.specs.Pipeline.{noState};
 ghost use Rattle.engines.specs.Network.{orElse};
 ghost use Rattle.readings.specs.Readings.{captureOnly, pipelineOnly, numberIf, termOf, roundOf, stoppedOf, initiatorNow, outcomeRead, nodeOf, ofPipeline, stateAt, logLenOf, entryOf, logEntryOf, pendingIn, pendingOf, recordIn, recordOf, textIf, ceAnswer, ceLeft, pipeAnswerOf, pipeLeft, textOf, textLeft};
 use engines::metrics::MetricsCollector;

@@ -5,7 +5,7 @@ use Prim.Native.Nat.{ℕ}
 use borrow.Author.Tests.{eq-eqb, ne-eqb}
 use lib.Ieee.{Float}
 use Rattle.room.specs.declared.room.Opening.{Opening}
-use Rattle.room_c.specs.Console.{Calling, play, putRoom, Run, ended, runFrom}
+use Rattle.room_c.specs.Console.{Calling, play, putRoom, ended, runFrom}
 
 module _ (o : Opening) (ws calls rows told : List ℕ) (floats : List Float) (text out : List ℕ) where
   abbrev first : Calling

@@ -3,15 +3,14 @@ use mathlib.Core.List.{List, [], _∷_, _++_, map}
 use mathlib.Core.Logic.{_⊎_, inl, inr}
 use mathlib.Core.Option.{Option, none, some}
 use mathlib.Core.Path.{_≡_, refl, sym, _∙_, ap}
-use Prim.Native.Nat.{ℕ, zero, suc, _+_, _*_, _-_, _<_, _≤_}
+use Prim.Native.Nat.{ℕ, zero, suc, _+_, _-_, _<_, _≤_}
 use native.Mathlib.Omega.{arith}
-use lib.Ieee.{Float}
 use lib.ListN.{length, getD, List·getD-eq-default}
-use lib.Seq.{sets, getD-drop}
+use lib.Seq.{getD-drop}
 use Rattle.readings.specs.Calls.{Reading, «proposal_outcome», «record», answerOf}
 use Rattle.room.specs.declared.room.Room.{Room}
-use Rattle.demand.specs.Calls.{Call, Read, handed}
-use Rattle.room_c.specs.Answers.{said, toldIn}
+use Rattle.demand.specs.Calls.{Call, Read}
+use Rattle.room_c.specs.Answers.{said}
 use Rattle.room_c.specs.Console.{wholeReadings, partReadings, callTable}
 
 -- a number from k on that is none of the next count

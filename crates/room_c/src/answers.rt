@@ -4,7 +4,7 @@ ghost use mathlib.Core.Path.{_≡_};
 ghost use mathlib.Core.List.{[], _∷_};
 ghost use lib.ListN.{set};
 ghost use lib.Seq.{sets};
-ghost use Rattle.engines_c.specs.Numbers.{nodeNumbers, metricsNumbers};
+ghost use Rattle.engines_c.specs.Numbers.{metricsNumbers};
 ghost use Rattle.readings.specs.Calls.{theSettings, aRatio, maybeNumber, anOutcome, aNode, anEntry, aPending, aRecord};
 ghost use Rattle.room_c.specs.Answers.{kindNumber, outcomeNumber, said, toldIn};
 use engines::metrics::MetricsCollector;

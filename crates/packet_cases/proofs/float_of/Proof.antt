@@ -1,5 +1,5 @@
 use mathlib.Core.Path.{_≡_, sym, _∙_}
-use mathlib.Core.Bool.{Bool, true, false, not}
+use mathlib.Core.Bool.{Bool, false, not}
 use lib.Dec.{T}
 use borrow.Author.Needs.{needs}
 use Rattle.packet_cases.proofs.float_of.Statement.{statement}

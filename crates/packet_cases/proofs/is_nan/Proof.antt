@@ -1,6 +1,5 @@
 use lib.Ieee.{nanBits}
 use borrow.Author.Tests.{eq-eqb, ne-eqb}
-use borrow.Author.Needs.{needs}
 use Rattle.packet_cases.proofs.is_nan.Statement.{statement}
 use Rattle.packet_cases.proofs.is_nan.Tie as tie
 

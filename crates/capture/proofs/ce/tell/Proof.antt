@@ -1,4 +1,4 @@
-use mathlib.Core.Path.{refl, sym, _∙_}
+use mathlib.Core.Path.{sym, _∙_}
 use native.Mathlib.Omega.{arith}
 use borrow.Author.Tests.{not-true, not-false}
 use Rattle.capture.proofs.Telling.{told-none, told-new, nobody-heard, nothing-heard, packet-heard, source-in, heard-as}

@@ -1,4 +1,4 @@
-use borrow.Author.Tests.{lt-ltb, le-ltb, lt-leb, le-leb, eq-eqb, ne-eqb, not-true, not-false}
+use borrow.Author.Tests.{not-true, not-false}
 use Rattle.merges.specs.Merging.{canSleepOf}
 use borrow.Author.Needs.{needs}
 use Rattle.merges.proofs.merging.node_can_sleep.Statement.{statement}

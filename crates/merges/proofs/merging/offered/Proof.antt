@@ -1,4 +1,4 @@
-use mathlib.Core.Path.{_≡_, refl, sym, ap, _∙_}
+use mathlib.Core.Path.{_∙_}
 use Rattle.merges.proofs.Bitmaps.{offered-is}
 use borrow.Author.Needs.{needs}
 use Rattle.merges.proofs.merging.offered.Statement.{statement}

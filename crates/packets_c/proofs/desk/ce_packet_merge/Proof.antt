@@ -1,4 +1,4 @@
-use mathlib.Core.Path.{_≡_, refl, sym, ap, _∙_}
+use mathlib.Core.Path.{sym, ap, _∙_}
 use Rattle.packets_c.specs.Desk.{Desk, voters}
 use Rattle.packets_c.proofs.Desks.{desk-refused, desk-redundant, desk-rewritten}
 use borrow.Author.Needs.{needs}

@@ -1,4 +1,4 @@
-use mathlib.Core.Path.{_≡_, refl, sym, ap, _∙_}
+use mathlib.Core.Path.{sym, ap, _∙_}
 use Rattle.packets.specs.declared.Wrote.{Wrote}
 use Rattle.packets_c.specs.Console.{nextOf}
 use Rattle.packets_c.specs.Desk.{voters}

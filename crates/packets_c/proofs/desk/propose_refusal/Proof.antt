@@ -1,7 +1,6 @@
 use native.Mathlib.Omega.{arith}
 use borrow.Author.Tests.{lt-ltb, le-ltb, lt-leb, le-leb, eq-eqb, ne-eqb}
 use Rattle.packets_c.specs.Desk.{proposeRefusal}
-use borrow.Author.Needs.{needs}
 use Rattle.packets_c.proofs.desk.propose_refusal.Statement.{statement}
 use Rattle.packets_c.proofs.desk.propose_refusal.Tie as tie
 
