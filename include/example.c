@@ -87,7 +87,16 @@ static int merge(void)
     return 0;
 }
 
+/* Whether two positions vote no in term 1 of a room with this seed. */
+static int vote(void)
+{
+    const uint64_t seed = UINT64_C(0x61C8864680B583EC);
+    for (uint64_t v = 0; v < 2; v++)
+        printf("position %" PRIu64 " votes %s\n", v, ce_vote(1, v, 0.0005, seed) ? "no" : "yes");
+    return 0;
+}
+
 int main(void)
 {
-    return capture() || pipeline() || merge();
+    return capture() || pipeline() || merge() || vote();
 }
