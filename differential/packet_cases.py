@@ -1,5 +1,6 @@
 #!/usr/bin/env python3
-"""Makes crates/packet_cases/stdin and stdout from the Rust's answers and from cases by hand; src/main.rt says what a question means.
+"""Makes crates/packet_cases/stdin and stdout from the Rust's answers and from cases by hand; src/main.rt says what a
+question means.
 
 Usage: (for part in packets merge late; do differential/run --sample $part; done) | differential/packet_cases.py
 """

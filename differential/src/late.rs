@@ -1,6 +1,6 @@
-//! Late frames: lists of proposals and deliveries over the merge alone. A delivery brings a copy of any text that any position held at any
-//! earlier moment. Both sides play the same list, each on its own texts; and on both no two packets ever held for one term may be one Committed
-//! and one Aborted.
+//! Late frames: lists of proposals and deliveries over the merge alone. A delivery brings a copy of a text that some
+//! position held before. Both sides play the same list, each on its own texts; and on both no two packets held for one
+//! term may be one Committed and one Aborted.
 
 use crate::oracle::{merge, protocol};
 use crate::packets::hexadecimal;
@@ -259,46 +259,74 @@ fn course(r: &mut Prng) -> Course {
     }
 }
 
+/// Plays an event on the Rust's side and prints it.
+fn tell(list: usize, s: &Settings, d: &mut Desk, e: Event) {
+    let (Event::Propose(v) | Event::Deliver { to: v, .. }) = e;
+    let (before, term, k) = (d.now(v), d.term, d.moments.len());
+    let handed = d.play(s, &THEIRS, e);
+    let (after, n, bits, seed) = (hexadecimal(&d.now(v)), s.n, s.p.to_bits(), s.seed);
+    match e {
+        Event::Propose(_) => println!("{term} {n} {bits} {seed} {v} | {after} | list {list}, event {k}"),
+        Event::Deliver { moment, from, .. } => {
+            let (local, received) = (hexadecimal(&before), hexadecimal(&d.text(moment, from)));
+            let note = format!("list {list}, event {k}: what {from} held after event {moment}");
+            println!("{n} {bits} {seed} {v} | {local} | {received} | {} | {after} | {note}", handed.1);
+        }
+    }
+}
+
+/// Nobody holds anything yet, in buffers that every text fits.
+fn ample(n: usize, p: f64, seed: u64) -> Settings {
+    Settings {
+        n,
+        p,
+        seed,
+        term: 0,
+        sizes: vec![AMPLE; n],
+    }
+}
+
+/// The lists of RULES 11.13. Under this seed position 0 votes no in term 1, and everybody yes in term 2.
+fn worked() -> [(usize, Vec<Event>); 3] {
+    let hears = |to, from, moment| Event::Deliver { to, moment, from };
+    let proposes = Event::Propose;
+    [
+        (1, vec![proposes(0), proposes(0), hears(0, 0, 1)]),
+        (2, vec![proposes(1), hears(0, 1, 1), proposes(1), hears(0, 0, 2), hears(0, 1, 4)]),
+        (2, vec![proposes(1), hears(0, 1, 1), hears(1, 0, 2), hears(1, 1, 1)]),
+    ]
+}
+
 /// The Rust's answers on a few lists for the gate, always the same ones: no seed and no scale.
 pub fn sample() {
     println!("# The Rust: {}", ctsim::SOURCE);
-    println!("# Lists of proposals and deliveries, event by event. A proposal: term before, n, bits of p, seed, position | text | note");
-    println!("# A delivery: n, bits of p, seed, position | local | received | 1 for NewInfo | local afterwards | note; texts in hexadecimal");
+    println!("# Lists of proposals and deliveries, event by event. A proposal:");
+    println!("#   term before, n, bits of p, seed, position | text | note");
+    println!("# A delivery:");
+    println!("#   n, bits of p, seed, position | local | received | 1 for NewInfo | local afterwards | note");
+    println!("# Texts are in hexadecimal.");
     let mut r = Prng::of(0, "sample late");
     for (list, (n, events)) in [(1, 8), (2, 25), (3, 30), (4, 30), (6, 25)].into_iter().enumerate() {
-        let (p, seed) = (0.7 / n as f64, r.next());
-        let s = Settings {
-            n,
-            p,
-            seed,
-            term: 0,
-            sizes: vec![AMPLE; n],
-        };
+        let s = ample(n, 0.7 / n as f64, r.next());
         let (mut d, mut c) = (Desk::open(&s), course(&mut r));
         c.every = 12;
         while d.moments.len() <= events {
-            let (e, k) = (event(&mut r, &s, &d, &mut c), d.moments.len());
+            let e = event(&mut r, &s, &d, &mut c);
             let (Event::Propose(v) | Event::Deliver { to: v, .. }) = e;
             if v >= s.n {
                 continue;
             }
-            let (before, term) = (d.now(v), d.term);
-            let handed = d.play(&s, &THEIRS, e);
-            let (after, bits) = (hexadecimal(&d.now(v)), p.to_bits());
-            match e {
-                Event::Propose(_) => println!("{term} {n} {bits} {seed} {v} | {after} | list {list}, event {k}"),
-                Event::Deliver { moment, from, .. } => {
-                    c.sent.push(e);
-                    let (local, received) = (hexadecimal(&before), hexadecimal(&d.text(moment, from)));
-                    let note = format!("list {list}, event {k}: what {from} held after event {moment}");
-                    println!(
-                        "{n} {bits} {seed} {v} | {local} | {received} | {} | {after} | {note}",
-                        handed.1
-                    );
-                }
+            tell(list, &s, &mut d, e);
+            if let Event::Deliver { .. } = e {
+                c.sent.push(e);
             }
         }
         assert!(both(&decisions(&d, their_reader)).is_empty());
+    }
+    for (list, (n, events)) in worked().into_iter().enumerate() {
+        let s = ample(n, 0.0005, 0x61C8_8646_80B5_83EC);
+        let mut d = Desk::open(&s);
+        events.into_iter().for_each(|e| tell(5 + list, &s, &mut d, e));
     }
 }
 
@@ -576,8 +604,8 @@ mod compared {
         )
     }
 
-    /// That the test of the promise can fail: how many of 500 lists break it under a wrong merge, or of more where these are too few to
-    /// show it.
+    /// That the test of the promise can fail: how many of 500 lists break it under a wrong merge, or of more where these
+    /// are too few to show it.
     fn wrong(t: &mut Tally, r: &mut Prng, name: &str, merge: fn(&Settings, usize, &[u8], u64, &[u8]) -> Handed) {
         let propose = their_propose;
         let calls = Calls { propose, merge };

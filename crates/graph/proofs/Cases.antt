@@ -59,12 +59,12 @@ unfolding diameterOf graphBy filled tabulate marks anyOf linkOf aheadOf meshRule
 diameters = (refl, refl, refl, refl, refl, refl)
 
 -- fronts of a wave: in a line of 4 from position 1, where the second step is the last that comes to anybody; and in 3
--- positions with one-way links 0 to 1 and 1 to 2 of which 0 also hears itself, from 0 and from 2
+-- positions with one-way links 0 to 1 and 1 to 2 of which 1 also hears itself, from 0 and from 2
 abbrev pub lineOf4 : NetworkGraph
 lineOf4 = graphBy 4 (linkOf Line 4)
 
 abbrev pub oneWay : NetworkGraph
-oneWay = record { n = 3; adj = 3 ∷ 4 ∷ [] }
+oneWay = record { n = 3; adj = 2 ∷ 6 ∷ [] }
 
 abbrev pub frontsOf : NetworkGraph → ℕ → List ℕ
 frontsOf g i =

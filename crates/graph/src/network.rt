@@ -1,4 +1,4 @@
-// Ported from network.rs: who hears whom. A link from i to j says that j hears i. It may have no counterpart,
+// RULES 2. Ported from network.rs: who hears whom. A link from i to j says that j hears i. It may have no counterpart,
 // and a position may hear itself.
 // Every call answers with the refusal's number (RULES 15) beside its value (0: none); a refused call's value is empty.
 ghost use mathlib.Core.Path.{_≡_};
@@ -73,7 +73,7 @@ fn apart(i: usize, j: usize, d: usize) -> bool
     j - i == d
 }
 
-// The last position hears itself followed by the first.
+// In a ring of more than two the first position follows the last.
 fn closes(n: usize, i: usize, j: usize) -> bool
     ensures { λ r. ⌜ r ≡ (ltb 2 n && (eqb n (i + 1) && eqb j 0)) ⌝ }
 {
@@ -371,10 +371,10 @@ fn wave_step(adj: &[u64; 64], w: Wave, k: usize) -> Wave
     }
 }
 
-// The wave after n steps. Behind an empty front it does not change any more, so the walk ends there.
-fn wave_from(adj: &[u64; 64], n: usize, start: usize) -> Wave
-    requires { ⌜ (n ≤ positions) × (start < n) ⌝ }
-    ensures { λ r. ⌜ r ≡ waveOf (record { n = n; adj = now (adj .entry) }) start n ⌝ }
+// The wave after so many steps. Behind an empty front it does not change any more, so the walk ends there.
+fn wave_from(adj: &[u64; 64], n: usize, start: usize, steps: usize) -> Wave
+    requires { ⌜ (n ≤ positions) × (start < n) × (steps ≤ n) ⌝ }
+    ensures { λ r. ⌜ r ≡ waveOf (record { n = n; adj = now (adj .entry) }) start steps ⌝ }
 {
     let mut w = Wave {
         front: sets::with_mark(0, start),
@@ -382,7 +382,7 @@ fn wave_from(adj: &[u64; 64], n: usize, start: usize) -> Wave
         links: 0,
     };
     let mut k: usize = 0;
-    while k < n {
+    while k < steps {
         if w.front == 0 {
             return w;
         }
@@ -408,7 +408,7 @@ fn longest_path(adj: &[u64; 64], n: usize) -> usize
     let mut d: usize = 0;
     let mut i: usize = 0;
     while i < n {
-        let w = wave_from(adj, n, i);
+        let w = wave_from(adj, n, i, n);
         d = larger(d, w.links);
         i += 1;
     }
@@ -420,7 +420,7 @@ fn joined(adj: &[u64; 64], n: usize, i: usize, j: usize) -> bool
     requires { ⌜ (n ≤ positions) × (i < n) × (j < n) ⌝ }
     ensures { λ r. ⌜ r ≡ has (reached (record { n = n; adj = now (adj .entry) }) i n) j ⌝ }
 {
-    let w = wave_from(adj, n, i);
+    let w = wave_from(adj, n, i, n);
     let unseen = w.unseen;
     if sets::is_marked(unseen, j) {
         return false;

@@ -2,6 +2,7 @@
 -- held somewhere before. `LateFrames` is said for any votes, `LateInRoom` for those of a room.
 -- Assumes nothing: these are definitions and statements, which proofs/Late.antt proves.
 use mathlib.Core.Path.{_≡_}
+use mathlib.Core.Bool.{not, _&&_}
 use mathlib.Core.List.{List, [], _∷_}
 use Prim.Native.Nat.{ℕ}
 use lib.Dec.{ltb, eqb}
@@ -37,10 +38,10 @@ History = List Moment
 abbrev pub heldAt : History → ℕ → ℕ → Payload
 heldAt h m u = getD (getD h m (opening 0 0) .held) u noPayload
 
--- one event: a position that is none of the n changes nothing
+-- one event. A position that is none of the n changes nothing, and where no term follows a proposal is refused (13).
 unfoldable pub happened : Noes → ℕ → Event → History → Moment → Moment
 happened nay n (Propose v) h a =
-    either (ltb v n)
+    either (ltb v n && not (eqb (a .term) lastTerm))
     (record { term = proposalOf nay n v (a .term) .term; held = set (replicate n noPayload) v (record { held = Packet; packet = proposalOf nay n v (a .term) }) })
     a
 happened nay n (Deliver v m u) h a =
@@ -57,39 +58,22 @@ unfoldable pub history : Noes → ℕ → List Event → History → History
 history nay n [] h = h
 history nay n (e ∷ es) h = history nay n es (after nay n e h)
 
--- whatever is delivered late, no two packets of one term that are ever held are one Committed and one Aborted
-abbrev pub LateFrames : Type 0
-LateFrames =
-    (nay : Noes) (n t : ℕ) (es : List Event) (m u k w : ℕ)
-    → heldAt (history nay n es (opening n t ∷ [])) m u .held ≡ Packet
-    → heldAt (history nay n es (opening n t ∷ [])) k w .held ≡ Packet
-    → heldAt (history nay n es (opening n t ∷ [])) m u .packet .term ≡ heldAt (history nay n es (opening n t ∷ [])) k w .packet .term
-    → heldAt (history nay n es (opening n t ∷ [])) m u .packet .phase ≡ Committed
-    → heldAt (history nay n es (opening n t ∷ [])) k w .packet .phase ≡ Aborted
-    → ⊥
-
--- ---- in a room: n, abort probability and seed are fixed, and the votes are those that they give
-
--- one event: where no term follows a proposal is refused (13), and nothing changes
-unfoldable pub happenedIn : Voting → Event → History → Moment → Moment
-happenedIn s (Propose v) h a = either (eqb (a .term) lastTerm) a (happened (noOf s) (s .n) (Propose v) h a)
-happenedIn s (Deliver v m u) h a = happened (noOf s) (s .n) (Deliver v m u) h a
-
--- all moments of a list of events, the last one first
-unfoldable pub historyIn : Voting → List Event → History → History
-historyIn s [] h = h
-historyIn s (e ∷ es) [] = []
-historyIn s (e ∷ es) (a ∷ h) = historyIn s es (happenedIn s e (a ∷ h) a ∷ a ∷ h)
-
--- .. from an empty room in term t on
-abbrev pub roomHistory : Voting → ℕ → List Event → History
-roomHistory s t es = historyIn s es (opening (s .n) t ∷ [])
-
 -- some position held the packet p at some moment
 abbrev pub EverHeld : History → CeTwoPcPacket → Type 0
 EverHeld h p = (m : ℕ) × (u : ℕ) × (heldAt h m u ≡ record { held = Packet; packet = p })
 
--- no two packets ever held for one term, at whatever moments, are one Committed and one Aborted
+-- Two packets that were held for one term, be it by others and long apart, are not one Committed and one Aborted: for
+-- any votes, any n and any start term, from an empty room on ..
+abbrev pub LateFrames : Type 0
+LateFrames =
+    (nay : Noes) (n t : ℕ) (es : List Event) (p q : CeTwoPcPacket)
+    → EverHeld (history nay n es (opening n t ∷ [])) p → EverHeld (history nay n es (opening n t ∷ [])) q
+    → p .term ≡ q .term → p .phase ≡ Committed → q .phase ≡ Aborted → ⊥
+
+-- .. and so in a room, where n, abort probability and seed are fixed, and the votes are those that they give
+abbrev pub roomHistory : Voting → ℕ → List Event → History
+roomHistory s t es = history (noOf s) (s .n) es (opening (s .n) t ∷ [])
+
 abbrev pub LateInRoom : Type 0
 LateInRoom =
     (s : Voting) (t : ℕ) (es : List Event) (p q : CeTwoPcPacket)

@@ -1,5 +1,5 @@
--- Cases of votes, merges, outcomes and late copies: those of RULES 4.1, 6.9 and 11.12, and small ones that tell the
--- rules from their neighbours. Assumes nothing: these are statements, proved by computing in proofs/MergeCases.antt.
+-- Cases of votes, merges, outcomes and late copies: those of RULES 4.1, 6.9, 11.12 and 11.13, and small ones that
+-- tell the rules from their neighbours. Assumes nothing: these are statements, proved by computing in proofs/MergeCases.antt.
 use mathlib.Core.Path.{_≡_}
 use mathlib.Core.Bool.{true, false}
 use mathlib.Core.List.{List, [], _∷_}

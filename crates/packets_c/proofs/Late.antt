@@ -31,7 +31,7 @@ use Rattle.packets_c.specs.Late.{
 }
 use Rattle.merges.specs.declared.votes.Voting.{Voting}
 use Rattle.merges.proofs.Safety.{either-cases, merges-sound, proposes-sound, never-both}
-use Rattle.merges.proofs.Late.{set-all}
+use Rattle.loops.specs.Stores.{set-all}
 use Rattle.packets_c.proofs.Desks.{refused-leaves}
 use Rattle.packets_c.proofs.Texting.{
   texts-follow,

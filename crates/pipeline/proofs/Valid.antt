@@ -3,15 +3,16 @@
 -- piggybacked is a number of 64 bits. Assumes nothing.
 use Prim.Native.Nat.{ℕ, zero, suc, _-_, _^_, _≤_, _<_}
 use mathlib.Core.Bool.{Bool, true, false, not, _||_, _&&_}
-use mathlib.Core.List.{List, [], _∷_}
+use mathlib.Core.List.{List}
 use mathlib.Core.Path.{_≡_, refl, sym, _∙_}
 use native.Mathlib.Nat.{mod-lt}
 use native.Mathlib.Omega.{arith}
 use lib.Dec.{eqb, ltb, leb}
 use lib.Ieee.{Float}
 use lib.Pow.{pow-pos}
-use lib.ListN.{length, getD, set, replicate, length-set}
+use lib.ListN.{length, getD, replicate, length-set}
 use borrow.Author.Tests.{ltb-true, ltb-false, ne-eqb, eqb-true}
+use Rattle.loops.specs.Stores.{set-all}
 use Rattle.loops.specs.Pick.{either}
 use Rattle.loops.specs.Upto.{upto-holds}
 use Rattle.marks.specs.Marks.{has}
@@ -55,15 +56,6 @@ use Rattle.pipeline.specs.declared.pipeline.PipelineAnswer.{PipelineAnsw
 use Rattle.pipeline.proofs.Rounding.{early-size, refusal-none}
 
 -- ---- lists and loops
-
--- what all places have, and what is put at one of them has, all places have afterwards
-pub set-all : {A : Type 0} (P : A → Type 0) (d : A) (l : List A) (i : ℕ) (a : A) → ((j : ℕ) → P (getD l j d)) → P a
-    → (j : ℕ) → P (getD (set l i a) j d)
-set-all P d [] i a h p j = h j
-set-all P d (x ∷ l) zero a h p zero = p
-set-all P d (x ∷ l) zero a h p (suc j) = h (suc j)
-set-all P d (x ∷ l) (suc i) a h p zero = h zero
-set-all P d (x ∷ l) (suc i) a h p (suc j) = set-all P d l i a (λ k. h (suc k)) p j
 
 same-all : {A : Type 0} (P : A → Type 0) (d a : A) (n : ℕ) → P d → P a → (j : ℕ) → P (getD (replicate n a) j d)
 same-all P d a zero p q j = p
