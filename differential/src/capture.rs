@@ -2,7 +2,7 @@
 //! Rust (bytes sent, the progress raise, refusals) is computed here beside it.
 #![cfg_attr(not(feature = "engines"), allow(dead_code))]
 
-use crate::oracle::Capture;
+use crate::oracle::{Capture, HEADER};
 use crate::prng::Prng;
 use ctsim::node::{Node, NodeState};
 use ctsim::protocol::two_pc_ce::{CeTwoPcPacket, TwoPcCePhase};
@@ -95,12 +95,13 @@ pub fn payload_text(x: &[u64]) -> Vec<u8> {
     }
 }
 
-/// What a position sends: our engine holds no bytes of a text that nobody reads, and a room never holds one.
+/// What a position sends, behind a header: our engine holds no bytes of a text that nobody reads, and a room never
+/// holds one.
 fn sent_len(payload: &[u8]) -> u64 {
     if serde_json::from_slice::<CeTwoPcPacket>(payload).is_ok() {
-        payload.len() as u64
+        payload.len() as u64 + HEADER
     } else {
-        0
+        HEADER
     }
 }
 

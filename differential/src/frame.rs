@@ -789,14 +789,14 @@ fn last_lines(t: &mut Tally) {
         ("\r\n".into(), "refused 1\n"),
         ("\0".into(), "refused 1\n"),
         ("0".into(), "refused 1\n"),
-        (a.into(), "ALPHA 172\n"),
-        (format!("{a}\n"), "ALPHA 172\n"),
-        (format!("{a}\n\n"), "ALPHA 172\nrefused 1\n"),
+        (a.into(), "ALPHA 194\n"),
+        (format!("{a}\n"), "ALPHA 194\n"),
+        (format!("{a}\n\n"), "ALPHA 194\nrefused 1\n"),
         (format!("{a}\r\n"), "refused 1\n"),
-        (format!("{a}\n\r"), "ALPHA 172\nrefused 1\n"),
-        (format!("\n{a}"), "refused 1\nALPHA 172\n"),
-        (format!("{a}\n{a}"), "ALPHA 172\nALPHA 172\n"),
-        (format!("{}\n{a}", "0".repeat(4_000_000)), "refused 1\nALPHA 172\n"),
+        (format!("{a}\n\r"), "ALPHA 194\nrefused 1\n"),
+        (format!("\n{a}"), "refused 1\nALPHA 194\n"),
+        (format!("{a}\n{a}"), "ALPHA 194\nALPHA 194\n"),
+        (format!("{}\n{a}", "0".repeat(4_000_000)), "refused 1\nALPHA 194\n"),
         ("0".repeat(4_000_000), "refused 1\n"),
     ];
     for (input, due) in cases {
@@ -816,7 +816,7 @@ fn cuts(t: &mut Tally, r: &mut Prng) {
         if lines.last().is_some_and(|l| l.is_empty()) {
             lines.pop();
         }
-        lines.iter().map(|l| if *l == a.as_bytes() { "ALPHA 172\n" } else { "refused 1\n" }).collect()
+        lines.iter().map(|l| if *l == a.as_bytes() { "ALPHA 194\n" } else { "refused 1\n" }).collect()
     };
     let mut same = |input: &[u8], pieces: &[&[u8]]| {
         let (out, well) = fed_by_reads(pieces);

@@ -16,6 +16,9 @@ use rand_chacha::{ChaCha8Rng, MissingWord};
 use std::collections::HashSet;
 use std::panic::{catch_unwind, resume_unwind, AssertUnwindSafe};
 
+/// The bytes that the radio puts before every payload (RULES 7.5). The Rust counts no bytes at all.
+pub const HEADER: u64 = 11;
+
 /// Panics that say "no word left" are answers here: they print nothing.
 pub fn quiet_panics() {
     let before = std::panic::take_hook();
@@ -284,7 +287,7 @@ impl Capture {
         let goal = after.1;
         for node in acted.iter().flatten() {
             if node.state == NodeState::Flood {
-                self.bytes += node.payload.len() as u64;
+                self.bytes += node.payload.len() as u64 + HEADER;
             }
         }
         (self.slot, _, self.nodes, self.metrics, self.next_row) = after;
@@ -410,8 +413,8 @@ impl PipelineRoom {
             let length = self.core.nodes[self.core.initiator()].payload.len() as u64;
             let before = self.floods();
             self.core.flood_identical();
-            // Bytes sent (RULES 7.5): every flooder sends the initiator's payload.
-            self.bytes += (self.floods() - before) * length;
+            // Bytes sent (RULES 7.5): every flooder sends a header and the initiator's payload.
+            self.bytes += (self.floods() - before) * (length + HEADER);
             self.door.process_round(&mut self.core);
             self.rounds += 1;
             if self.door.should_stop(&self.core) {

@@ -234,7 +234,7 @@ fn captures(c: &mut Checks) {
     c.is("m: counts", counts(&room.nodes), (3, 3, 0));
     let held: Vec<usize> = room.nodes.iter().map(|n| n.payload.len()).collect();
     c.is("C4: held", held, vec![86, 87]);
-    c.is("ALPHA", room.bytes, 172);
+    c.is("ALPHA", room.bytes, 194);
     c.is("progress", room.nodes[1].progress_count, 1);
     c.is("row of slot 0", room.metrics.snapshots.len(), 1);
     let states: Vec<Vec<NodeState>> = ran
@@ -288,7 +288,7 @@ fn captures(c: &mut Checks) {
             room.bytes,
             g.cursor(),
         ),
-        (1, 1, 85, 3),
+        (1, 1, 107, 3),
     );
     let mut room = open(graph_of_rows(&[0, 1]), 1, 3, FOREVER);
     room.propose(0);
@@ -357,7 +357,7 @@ fn pipelines(c: &mut Checks) {
         (m.flood_nodes_covered, r.stopped, r.rounds),
         (2, true, 1),
     );
-    c.is("A7: bytes", r.bytes, 352);
+    c.is("A7: bytes", r.bytes, 374);
     let p = deserialize_packet(&r.core.nodes[0].payload).unwrap();
     c.is(
         "E2: T 0",
@@ -396,7 +396,7 @@ fn pipelines(c: &mut Checks) {
     let mut r = open(NetworkGraph::line(2), 1, 0.0, 0.5, 1, None, &words);
     r.run().unwrap();
     c.is("E4: rounds, words", (r.rounds, r.core.rng.cursor()), (1003, 1004));
-    c.is("E4: nacks, bytes", (r.core.metrics.nacks_sent, r.bytes), (0, 352890));
+    c.is("E4: nacks, bytes", (r.core.metrics.nacks_sent, r.bytes), (0, 374945));
     c.is("E5: logs", (log(&r, 0), log(&r, 1)), (vec![(0, Committed)], vec![]));
     c.is("E7: r stays", r.core.round_num, 1002);
 
@@ -407,7 +407,7 @@ fn pipelines(c: &mut Checks) {
         (log(&r, 0), log(&r, 1)),
         (vec![(0, Aborted)], vec![(0, Committed)]),
     );
-    c.is("E6: bytes", r.bytes, 899);
+    c.is("E6: bytes", r.bytes, 954);
     let records: Vec<(usize, ProposalOutcome)> = r
         .core
         .metrics
@@ -427,7 +427,7 @@ fn pipelines(c: &mut Checks) {
 
     let mut r = open(NetworkGraph::full_mesh(2), 0, 0.0, 0.0, 1, Some(0xFFFFFFFE), &[]);
     r.run().unwrap();
-    c.is("A4: T 0", (r.bytes, r.core.current_slot), (352, 2));
+    c.is("A4: T 0", (r.bytes, r.core.current_slot), (374, 2));
 }
 
 /// The rounds driven through the door against the program's own `TwoPcPipelineSim::run`.

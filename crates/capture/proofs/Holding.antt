@@ -25,9 +25,11 @@ use Rattle.merges.specs.declared.merging.Slip.{Slip}
 use Rattle.merges.specs.declared.merging.Held.{Held}
 use Rattle.merges.specs.declared.merging.Held.the-variants.{Empty, Unreadable, Packet}
 use Rattle.merges.specs.declared.merging.Payload.{Payload}
+use Rattle.loops.specs.Wrap.{add64}
 use Rattle.engines.specs.Clamp.{atMost64}
 use Rattle.engines.specs.Marked.{overMarks}
 use Rattle.engines.specs.Columns.{cell}
+use Rattle.engines.specs.Network.{onAir}
 use Rattle.engines.proofs.Cells.{row-length, row-other, row-own}
 use Rattle.engines.proofs.Places.{view-get, view-same, view-put, view-length}
 use Rattle.capture.specs.Ce.{lenBy, payloadLen, sentAt, sentOf}
@@ -119,8 +121,8 @@ module _ {n : ℕ} {base : List Payload} {p : Phases} {rests : ℕ} {x : List �
   unfolding sentBy sentOf sentAt overMarks
   sent-is flooding inside = upto-same _ _ 0 64 (λ i h sum. by i (has flooding i) refl sum)
     where
-      by : (i : ℕ) (t : Bool) → has flooding i ≡ t → (sum : ℕ) → either t ((sum + lengthBy p x i) % 2 ^ 64) sum ≡ either t ((sum + payloadLen (getD held i noPayload)) % 2 ^ 64) sum
-      by i true q sum = ap (λ (k : ℕ). (sum + k) % 2 ^ 64) (length-at i (inside i q))
+      by : (i : ℕ) (t : Bool) → has flooding i ≡ t → (sum : ℕ) → either t (add64 sum (onAir (lengthBy p x i))) sum ≡ either t (add64 sum (onAir (payloadLen (getD held i noPayload)))) sum
+      by i true q sum = ap (λ (k : ℕ). add64 sum (onAir k)) (length-at i (inside i q))
       by i false q sum = refl
 
   -- ---- the goal

@@ -14,3 +14,4 @@ pub mod Targets
 pub mod Unpacking
 pub mod Resting
 pub mod Keeping
+pub mod Sent

@@ -26,6 +26,7 @@ use Rattle.engines.specs.Clamp.{atMost64}
 use Rattle.engines.specs.Marked.{overMarks, withMark, place}
 use Rattle.engines.specs.Columns.{cell, raisedBy, storedAs, rowPut}
 use Rattle.engines.specs.Nodes.{inc, noNode, isListen, isFlood, isSleep}
+use Rattle.engines.specs.Network.{onAir}
 use Rattle.engines.specs.Rows.{nextRow}
 use Rattle.engines.specs.Rounds.{Stepped, Surveyed}
 use Rattle.engines.specs.declared.words.Draw.{Draw}
@@ -291,7 +292,7 @@ pub record PlannedBy (ws links : List ℕ) (f : CeFixed) (s : StateSets) (slot :
 
 -- ---- bytes
 
--- the bytes that position i sends if it floods
+-- the length of the payload that position i sends if it floods
 unfoldable pub lengthBy : Phases → List ℕ → ℕ → ℕ
 lengthBy p x i =
     either (holdsBy p i)
@@ -300,7 +301,7 @@ lengthBy p x i =
     0
 
 unfoldable pub sentBy : ℕ → Phases → List ℕ → ℕ
-sentBy flooding p x = overMarks flooding (λ i sum. (sum + lengthBy p x i) % 2 ^ 64) 0
+sentBy flooding p x = overMarks flooding (λ i sum. add64 sum (onAir (lengthBy p x i))) 0
 
 -- ---- merges, in place
 

@@ -2,11 +2,12 @@
 -- Assumes nothing.
 use mathlib.Core.Bool.{Bool, true, false}
 use mathlib.Core.List.{List}
-use Prim.Native.Nat.{ℕ, _+_, _%_, _^_}
+use Prim.Native.Nat.{ℕ}
 use lib.Dec.{ltb}
 use lib.ListN.{set, getD}
 use Rattle.loops.specs.Pick.{either}
 use Rattle.loops.specs.Upto.{upto}
+use Rattle.loops.specs.Wrap.{add64}
 use Rattle.packets.specs.Packets.{ceText, ceWithin}
 use Rattle.packets.specs.Writing.{textLen}
 use Rattle.merges.specs.Votes.{noOf}
@@ -21,6 +22,7 @@ use Rattle.merges.specs.declared.merging.MergeResult.{MergeResult}
 use Rattle.merges.specs.declared.merging.MergeResult.the-variants.{Redundant, NewInfo}
 use Rattle.engines.specs.Clamp.{atMost64}
 use Rattle.engines.specs.Marked.{withMark, overMarks}
+use Rattle.engines.specs.Network.{onAir}
 
 -- The length of a payload: that of its text, and nothing where there is no packet.
 abbrev pub lenBy : CeTwoPcPacket → Held → ℕ
@@ -31,9 +33,9 @@ lenBy p Packet = textLen (ceWithin p) (ceText p)
 unfoldable pub payloadLen : Payload → ℕ
 payloadLen l = lenBy (l .packet) (l .held)
 
--- Every flooding position that gets to act sends the payload that it held at the slot's start.
+-- Every flooding position that gets to act sends the payload that it held at the slot's start, be it empty.
 unfoldable pub sentAt : List Payload → ℕ → ℕ → ℕ
-sentAt held i sum = (sum + payloadLen (getD held i noPayload)) % 2 ^ 64
+sentAt held i sum = add64 sum (onAir (payloadLen (getD held i noPayload)))
 
 unfoldable pub sentOf : ℕ → List Payload → ℕ
 sentOf flooding held = overMarks flooding (sentAt held) 0

@@ -6,3 +6,4 @@ pub mod PlanCases
 pub mod Idle
 pub mod Boards
 pub mod Senders
+pub mod Sent

@@ -35,8 +35,8 @@ startAt initiator slot i l = set l i (started initiator slot i (getD l i noNode)
 unfoldable pub startedAll : ℕ → ℕ → ℕ → List Node → List Node
 startedAll n initiator slot l = upto (atMost64 n) (startAt initiator slot) l
 
--- The next state. One that can sleep goes from Flood to Sleep, and from any other state, Sleep too, to Flood. Any
--- other floods if it progressed, sleeps on if it slept, and else listens.
+-- The next state. Of those that can sleep, who flooded sleeps, and who listened or slept floods. Of the others, who
+-- progressed floods, who slept sleeps on, and the rest listen.
 unfoldable pub nextState : NodeState → Bool → Bool → NodeState
 nextState s progressed canSleep = either canSleep (either (isFlood s) Sleep Flood) (either progressed Flood (either (isSleep s) Sleep Listen))
 

@@ -11,6 +11,7 @@ use super::board::LEN;
 use super::board::MARKS;
 use super::board::Phases;
 use super::board::TERM;
+use engines::network;
 use graph::sets;
 use merges::merging;
 use merges::merging::Slip;
@@ -27,7 +28,7 @@ pub struct Told {
 
 // ---- bytes
 
-// The bytes that position i sends if it floods: the length of its packet's text, nothing where it holds none.
+// The length of the payload that position i sends if it floods: that of its packet's text, 0 where it holds none.
 fn text_len(p: Phases, table: &[u64; 576], i: usize) -> usize
     requires { ⌜ i < 64 ⌝ }
     ensures { λ r. ⌜ r ≡ lengthBy p (now (table .entry)) i ⌝ }
@@ -42,7 +43,7 @@ fn text_len(p: Phases, table: &[u64; 576], i: usize) -> usize
     two_pc_ce::ce_parts_len(s.term, phase, table[DATA + from] as usize, b)
 }
 
-// The bytes that the flooding positions send: each the payload that it held at the slot's start.
+// The bytes that the flooding positions send: each a header and the payload that it held at the slot's start.
 pub(crate) fn bytes_of(flooding: u64, p: Phases, table: &[u64; 576]) -> u64
     ensures { λ r. ⌜ r ≡ sentBy flooding p (now (table .entry)) ⌝ }
 {
@@ -50,7 +51,7 @@ pub(crate) fn bytes_of(flooding: u64, p: Phases, table: &[u64; 576]) -> u64
     let mut left = flooding;
     while left != 0 {
         let i = sets::lowest_mark(left);
-        sum = std::num::wrapping_add_u64(sum, text_len(p, table, i) as u64);
+        sum = std::num::wrapping_add_u64(sum, network::on_air(text_len(p, table, i) as u64));
         left = sets::without_mark(left, i);
     }
     sum

@@ -24,7 +24,7 @@ use Rattle.engines.specs.Words.{nextOf, unitOf, coinOf, lostOf, pickOf, swapSte
 use Rattle.engines.specs.Nodes.{ticked, tickAt, tickedAll, listens, floods, sleeps, setsOf, resetRound}
 use Rattle.engines.specs.Rows.{highestProgress, rowOf, isDue, nextRow, rowsRefused}
 use Rattle.engines.specs.Metrics.{withFrames}
-use Rattle.engines.specs.Network.{newNetwork, ticking, dueRow, slotRow, longRefusal, lateOf}
+use Rattle.engines.specs.Network.{newNetwork, ticking, onAir, dueRow, slotRow, longRefusal, lateOf}
 use Rattle.capture.specs.Plan.{timedOut, tossed1, coinsOf, noteAt, sendersOf, examine1, firstKept, heardFrom, captureOf as heardOfPlan, whom, tallied, captureAt, targetsOf, capturesOf, planAfter, planOf}
 use Rattle.capture.specs.Turns.{started, startedAll, nextState, turned, turnOf, turnedAll, countedSlot}
 use Rattle.capture.specs.Ce.{payloadLen, sentAt, sentOf, hearingOf, toldAt, toldAll}
@@ -62,7 +62,7 @@ one a l e = rw (l, e, one-not)
 -- ---- the table
 
 pub marked-cases : MarkedCases
-unfolding upto downto go tell tabulate filled marks anyOf allOf countOf marksOf decimal decimalF written listText itemsText graphBy builtOf nextRule meshRule aheadOf linkOf topologyOf inside rowsOf ceText bitmapText dataText limits noOf hashOf shareOf filledOf markedOf onlyOf joinOf joinNews unanimousOf rankOf ensureOf decidedOf acknowledgedOf voicedOf settledOf adoptedOf raisedOf ownOf sameTermOf outdated heardOf mergedBy mergeOf proposalData proposalOf standingBy goalOf canSleepOf allHold networkGoalOf outcomeOf lossAccepted isLossy overMarks withMark nextOf unitOf coinOf lostOf pickOf swapStep shuffled ticked tickAt tickedAll listens floods sleeps setsOf highestProgress rowOf isDue nextRow timedOut tossed1 coinsOf noteAt sendersOf examine1 firstKept heardFrom heardOfPlan whom tallied captureAt targetsOf capturesOf planAfter planOf started startedAll nextState turned turnOf turnedAll countedSlot payloadLen sentAt sentOf hearingOf toldAt toldAll begun goalMet acted finished slotOf slotRow dueRow ticking startOf afterRound refusalOf answerOf openRefusal roundLength newRoom openOf proposeRefusal proposedIn proposePart proposeOf raised raisedAll networkAfter captureRefusal capturedBy capturePart captureOf stagesFrom captureSlots ofBits ofFields eq lt le div ofInt round units odd span climb size resetRound rowsRefused framed hearAt hearersOf sendAt floodPlan afterFlood afterListen nextNode turnAt floodTurned nobodyFloods sentAfter floodSlot resetAt resetAll floodStart floodRound floodRows joinMarks commonMarks withoutMark loggedAt loggedOf outcomeAt loggedOutcome pushed finalizeTx allVoted openTx votesAt mergeVotes mergeAbort gapAt gapOf nackOf voteOf isJudged judgeAt judged fastOf abortAll ownVote dataOf packetOf samePacket recordTx isFresh beginTx recordDue recordJudged abortOf knownVotes roundPacket prepareRound isNew hearNew mergeRound recordAborts takeUp isAnswer answerNack processOne partsOf processAt processAll shorterAt shortestLog progressAt progressAll stopsAt deliverAll isCovered coverAt coveredOf initiatorOf preparing bytesOf floodFrom closeRound floodOf runRound newPart newNetwork processing pipelineText diameterOf lengthOf floodLength earlyRefusal longRefusal graphRefusal withFrames lateOf lateRefusal roundRefusal rowsOfRound roundAnswer pipelineRefusal pipelinePart pipelineOf pipelineSlots payloadOf
+unfolding upto downto go tell tabulate filled marks anyOf allOf countOf marksOf decimal decimalF written listText itemsText graphBy builtOf nextRule meshRule aheadOf linkOf topologyOf inside rowsOf ceText bitmapText dataText limits noOf hashOf shareOf filledOf markedOf onlyOf joinOf joinNews unanimousOf rankOf ensureOf decidedOf acknowledgedOf voicedOf settledOf adoptedOf raisedOf ownOf sameTermOf outdated heardOf mergedBy mergeOf proposalData proposalOf standingBy goalOf canSleepOf allHold networkGoalOf outcomeOf lossAccepted isLossy overMarks withMark nextOf unitOf coinOf lostOf pickOf swapStep shuffled ticked tickAt tickedAll listens floods sleeps setsOf highestProgress rowOf isDue nextRow timedOut tossed1 coinsOf noteAt sendersOf examine1 firstKept heardFrom heardOfPlan whom tallied captureAt targetsOf capturesOf planAfter planOf started startedAll nextState turned turnOf turnedAll countedSlot payloadLen onAir sentAt sentOf hearingOf toldAt toldAll begun goalMet acted finished slotOf slotRow dueRow ticking startOf afterRound refusalOf answerOf openRefusal roundLength newRoom openOf proposeRefusal proposedIn proposePart proposeOf raised raisedAll networkAfter captureRefusal capturedBy capturePart captureOf stagesFrom captureSlots ofBits ofFields eq lt le div ofInt round units odd span climb size resetRound rowsRefused framed hearAt hearersOf sendAt floodPlan afterFlood afterListen nextNode turnAt floodTurned nobodyFloods sentAfter floodSlot resetAt resetAll floodStart floodRound floodRows joinMarks commonMarks withoutMark loggedAt loggedOf outcomeAt loggedOutcome pushed finalizeTx allVoted openTx votesAt mergeVotes mergeAbort gapAt gapOf nackOf voteOf isJudged judgeAt judged fastOf abortAll ownVote dataOf packetOf samePacket recordTx isFresh beginTx recordDue recordJudged abortOf knownVotes roundPacket prepareRound isNew hearNew mergeRound recordAborts takeUp isAnswer answerNack processOne partsOf processAt processAll shorterAt shortestLog progressAt progressAll stopsAt deliverAll isCovered coverAt coveredOf initiatorOf preparing bytesOf floodFrom closeRound floodOf runRound newPart newNetwork processing pipelineText diameterOf lengthOf floodLength earlyRefusal longRefusal graphRefusal withFrames lateOf lateRefusal roundRefusal rowsOfRound roundAnswer pipelineRefusal pipelinePart pipelineOf pipelineSlots payloadOf
 marked-cases =
     record {
       capture-line = record {
@@ -81,6 +81,7 @@ marked-cases =
         counts = refl;
         outcome = refl;
       };
+      empty-recovery = record { runs = refl; empty = refl; timeouts = refl; attempts = refl; success = refl; bytes = refl };
       pipeline-mesh = record {
         mesh = refl;
         opens = refl;

@@ -87,9 +87,9 @@ pub record LineOfTwo : Type 0 where
   -- the two packets sent, by the texts: position 0's in the first slot, position 1's, which it holds from then on, in the second
   pub first : payloadLen (heldAt (proposal .room) 0) ≡ 85
   pub second : map (λ r. payloadLen (heldAt r 1)) (captureSlots [] 0 (proposal .room)) ≡ 87 ∷ 87 ∷ 87 ∷ []
-  -- and by the bytes sent after each of the three slots
-  pub sent : map (λ r. r .network .«bytes_sent») (captureSlots [] 0 (proposal .room)) ≡ 85 ∷ 172 ∷ 172 ∷ []
-  pub bytes : captured .room .network .«bytes_sent» ≡ 172
+  -- and by the bytes sent after each of the three slots, 11 more for each packet sent
+  pub sent : map (λ r. r .network .«bytes_sent») (captureSlots [] 0 (proposal .room)) ≡ 96 ∷ 194 ∷ 194 ∷ []
+  pub bytes : captured .room .network .«bytes_sent» ≡ 194
   -- position 0 holds another text at the end: both marks are true in it
   pub first-after : payloadLen (heldAt (captured .room) 0) ≡ 86
   pub goal : networkGoalOf 2 (captured .room .capture .held) ≡ true
@@ -97,6 +97,41 @@ pub record LineOfTwo : Type 0 where
   pub ends : captured .room .network .slot ≡ 3
   pub counts : countsOfTwo (captured .room) ≡ 3 ∷ 3 ∷ 0 ∷ []
   pub outcome : outcomeOf 2 (captured .room .capture .held) ≡ outcome.Committed
+
+-- Two positions of which 0 hears 1 and nobody hears 0, timeout 1, rounds of 3 slots, and the coins no, yes, no:
+-- position 1, which holds nothing, recovers in the second slot and floods in the third.
+abbrev pub recoveryRoom : Opening
+recoveryRoom =
+    openOf (record {
+      kind = kinds.Capture;
+      graph = rowsOf (0 ∷ 1 ∷ []) .graph;
+      settings =
+          record {
+            «loss_rate» = ofBits binary64 0;
+            «abort_probability» = ofBits binary64 0;
+            seed = 0;
+            «listen_timeout» = 1;
+            «flood_repeats» = 1;
+            «round_slots» = 3;
+            «slots_given» = true;
+          };
+      transactions = 1;
+      term = 0;
+      interval = lastSlot;
+      bound = lastSlot;
+    })
+
+abbrev pub recovered : RoundAnswer
+recovered =
+    captureOf (18446744073709551615 ∷ 0 ∷ 18446744073709551615 ∷ []) 5 0 (proposeOf (recoveryRoom .room) 0 .room) 0
+
+pub record EmptyRecovery : Type 0 where
+  pub runs : recovered .refusal ≡ 0
+  pub empty : payloadLen (heldAt (recovered .room) 1) ≡ 0
+  pub timeouts : recovered .room .network .metrics .«ce_timeouts» ≡ 1
+  pub attempts : recovered .room .network .metrics .«rx_attempts» ≡ 1
+  pub success : recovered .room .network .metrics .«rx_success» ≡ 1
+  pub bytes : recovered .room .network .«bytes_sent» ≡ 107
 
 -- a pipeline room of them with no transactions, whose round slots are not given, and one round: no words, a buffer of
 -- one row
@@ -117,7 +152,7 @@ pub record MeshOfTwo : Type 0 where
   pub counts : countsOfTwo (flooded .room) ≡ 1 ∷ 2 ∷ 1 ∷ []
   pub covered : flooded .room .network .metrics .«flood_nodes_covered» ≡ 2
   pub stopped : flooded .room .pipeline .stop ≡ true
-  pub bytes : flooded .room .network .«bytes_sent» ≡ 352
+  pub bytes : flooded .room .network .«bytes_sent» ≡ 374
 
 -- ---- votes: 0.0005 by its pattern
 
@@ -231,8 +266,11 @@ One = (a : Asked) → graphRefusal (a .graph) ≡ 0 → a .settings .«loss_rate
 -- ---- the table
 
 pub record MarkedCases : Type 0 where
-  -- Two positions in a line, nobody votes no, position 0 proposes: it sends 85 bytes, then the other 87, and in the third slot both hold Committed.
+  -- Two positions in a line, nobody votes no, position 0 proposes: it sends 85 bytes, then the other 87, each behind
+  -- a header, and in the third slot both hold Committed.
   pub capture-line : LineOfTwo
+  -- A flood of nothing is on air too: 85 bytes and a header, then a header alone.
+  pub empty-recovery : EmptyRecovery
   -- Two positions that hear each other, nothing to agree on: each floods once, both hold the packet, and the room stops.
   pub pipeline-mesh : MeshOfTwo
   -- Seed 61C8864680B583EC, term 1, p = 0.0005: position 0 votes no, its share is 0.0004; position 1 votes yes, its share is 0.0005.

@@ -11,4 +11,5 @@ pub mod Cells
 pub mod Cursor
 pub mod RowSums
 pub mod Stretches
+pub mod FloodTicks
 pub mod Units

@@ -1,4 +1,4 @@
--- RULES 3.2, 7.3 and 7.4. Worked cases, computed over the rules themselves. Assumes nothing.
+-- RULES 3.2, 7.3, 7.4 and 7.5. Worked cases, computed over the rules themselves. Assumes nothing.
 use Prim.Native.Nat.{_^_, _-_}
 use mathlib.Core.Bool.{true, false}
 use mathlib.Core.List.{[], _∷_}
@@ -7,6 +7,7 @@ use lib.Ieee.{binary64, ofBits, ofFields, ofInt, div, round, units, odd, size, s
 use Rattle.loops.specs.Upto.{upto}
 use Rattle.marks.specs.Marks.{marks, countOf}
 use Rattle.engines.specs.Words.{nextOf, unitOf, coinOf, pickOf}
+use Rattle.engines.specs.Network.{onAir}
 use Rattle.engines.specs.Nodes.{listens, floods, sleeps, setsOf}
 use Rattle.engines.specs.Rows.{rowOf, highestProgress, isDue, nextRow, dueAfter, cells, rowsRefused}
 use Rattle.engines.specs.Metrics.{ratioOf}
@@ -55,6 +56,15 @@ ratios :
     × (ratioOf (2 ^ 64 - 1) (2 ^ 63) ≡ Some (ofBits binary64 0x4000_0000_0000_0000))
 unfolding ratioOf ofBits ofFields ofInt div round units odd size span climb lt le eq
 ratios = (refl, refl, refl)
+
+-- ---- bytes
+
+-- A header goes before every payload, an empty one too.
+sent :
+    (onAir 0 ≡ 11)
+    × (onAir 85 ≡ 96)
+unfolding onAir
+sent = (refl, refl)
 
 -- ---- rows
 

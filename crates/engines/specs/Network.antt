@@ -1,5 +1,5 @@
--- RULES 7.1, 7.3, 3.5, 11.3 and 11.6, and refusals 15 to 17 of RULES 15: what both kinds of room have and both kinds
--- of round move, and the rules that both kinds of round share. Assumes nothing.
+-- RULES 7.1, 7.3, 7.5, 3.5, 11.3 and 11.6, and refusals 15 to 17 of RULES 15: what both kinds of room have and both
+-- kinds of round move, and the rules that both kinds of round share. Assumes nothing.
 use mathlib.Core.Bool.{Bool}
 use mathlib.Core.List.{List, []}
 use Prim.Native.Nat.{ℕ, _+_}
@@ -7,7 +7,8 @@ use lib.Dec.{eqb, leb, ltb}
 use lib.ListN.{length, replicate}
 use lib.Seq.{sets}
 use Rattle.loops.specs.Pick.{either}
-use Rattle.limits.specs.Limits.{lastSlot}
+use Rattle.loops.specs.Wrap.{add64}
+use Rattle.limits.specs.Limits.{lastSlot, headerBytes}
 use Rattle.limits.specs.Refusals.{tooLong, wordsShort, rowsShort}
 use Rattle.engines.specs.Metrics.{noMetrics}
 use Rattle.engines.specs.Nodes.{inc, noNode, tickedAll}
@@ -36,6 +37,12 @@ ticking conf w = withNodes w (tickedAll (conf .graph .n) (w .nodes))
 abbrev pub behindSlot : RoundConf → Network → List Node → MetricsCollector → ℕ → Network
 behindSlot conf w l m bytes =
     record { nodes = l; metrics = m; slot = inc (w .slot); «next_row» = nextRow (w .«next_row») (conf .interval) (w .slot); «bytes_sent» = bytes }
+
+-- ---- bytes
+
+-- what one transmission takes: the radio's header and the payload, which may be empty
+unfoldable pub onAir : ℕ → ℕ
+onAir len = add64 len headerBytes
 
 -- ---- rows
 

@@ -83,6 +83,11 @@ unfoldable pub total : List Node → ℕ
 total [] = 0
 total (v ∷ l) = slots v + total l
 
+-- how often all positions together have flooded
+unfoldable pub floodTicks : List Node → ℕ
+floodTicks [] = 0
+floodTicks (v ∷ l) = v .«slots_flood» + floodTicks l
+
 -- v and w have the same three counts
 pub record Alike (v w : Node) : Type 0 where
   pub listen : v .«slots_listen» ≡ w .«slots_listen»

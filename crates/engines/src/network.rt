@@ -1,7 +1,7 @@
-// RULES 7.1, 7.3 and 7.4. What both kinds of room have and both kinds of round move, and what a round goes by.
+// RULES 7.1, 7.3, 7.4 and 7.5. What both kinds of room have and both kinds of round move, and what a round goes by.
 ghost use mathlib.Core.Path.{_≡_};
 ghost use lib.ListN.{length};
-ghost use Rattle.engines.specs.Network.{newNetwork, ticking, longRefusal, lateOf, dueRow, slotRow, writtenAt, writtenEnd};
+ghost use Rattle.engines.specs.Network.{newNetwork, ticking, onAir, longRefusal, lateOf, dueRow, slotRow, writtenAt, writtenEnd};
 use super::metrics::MetricsCollector;
 use super::node;
 use super::node::Node;
@@ -44,6 +44,13 @@ impl Network {
             bytes_sent: 0,
         }
     }
+}
+
+// The bytes of one transmission, by the length of its payload.
+pub fn on_air(len: u64) -> u64
+    ensures { λ r. ⌜ r ≡ onAir len ⌝ }
+{
+    std::num::wrapping_add_u64(len, limits::HEADER)
 }
 
 // A slot begins: every position is ticked in its state.

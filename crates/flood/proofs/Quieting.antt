@@ -20,6 +20,7 @@ use Rattle.marks.specs.Sets.{has-marks, and-true}
 use Rattle.loops.specs.Wrap.{mul64}
 use Rattle.engines.specs.Clamp.{atMost64}
 use Rattle.engines.specs.Metrics.{withFrames}
+use Rattle.engines.specs.Network.{onAir}
 use Rattle.engines.specs.Nodes.{noNode, isFlood, floods, setsOf, ticked, tickedAll}
 use Rattle.engines.specs.Rounds.{Stepped}
 use Rattle.engines.specs.Stretch.{passed, passedAll}
@@ -155,7 +156,7 @@ module _ (ws : List ℕ) (conf : RoundConf) (bytes : ℕ) where
         same-some n l long 1,
         q .some,
         q .going,
-        sent-one (w .«bytes_sent») (countOf (setsOf n l .flooding) 64 * bytes),
+        sent-one (w .«bytes_sent») (countOf (setsOf n l .flooding) 64 * onAir bytes),
       )
 
   -- ---- all of them
@@ -197,7 +198,7 @@ module _ (ws : List ℕ) (conf : RoundConf) (bytes : ℕ) where
         pass-both n (w .nodes) long 1 (suc k),
         pass-sets n (w .nodes) long 1,
         add-both (w .slot) 1 (suc k),
-        sent-more (w .«bytes_sent») (mul64 (countOf (setsOf n (w .nodes) .flooding) 64) bytes) k,
+        sent-more (w .«bytes_sent») (mul64 (countOf (setsOf n (w .nodes) .flooding) 64) (onAir bytes)) k,
         more,
       )
 

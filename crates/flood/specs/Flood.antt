@@ -10,14 +10,14 @@ use Rattle.loops.specs.Pick.{either}
 use Rattle.loops.specs.Upto.{upto}
 use Rattle.loops.specs.Runs.{runs}
 use Rattle.marks.specs.Marks.{has, marks, countOf}
-use Rattle.loops.specs.Wrap.{mul64}
+use Rattle.loops.specs.Wrap.{add64, mul64}
 use Rattle.limits.specs.Limits.{rowCells}
 use Rattle.engines.specs.Clamp.{atMost64}
 use Rattle.engines.specs.Marked.{overMarks, withMark}
 use Rattle.engines.specs.Words.{nextOf, lostOf}
 use Rattle.engines.specs.Nodes.{inc, noNode, resetRound, tickedAll, setsOf}
 use Rattle.engines.specs.Metrics.{withFrames}
-use Rattle.engines.specs.Network.{behindSlot}
+use Rattle.engines.specs.Network.{onAir, behindSlot}
 use Rattle.engines.specs.Rounds.{rowsIn}
 use Rattle.engines.specs.declared.words.Draw.{Draw}
 use Rattle.engines.specs.declared.words.Drawn.{Drawn}
@@ -112,9 +112,9 @@ turnedAll n repeats received l = upto (atMost64 n) (turnAt repeats received) l
 unfoldable pub nobodyFloods : ℕ → List Node → Bool
 nobodyFloods n l = eqb (setsOf n l .flooding) 0
 
--- every flooder sends the whole packet
+-- every flooder sends a header and the whole packet
 unfoldable pub sentAfter : ℕ → ℕ → ℕ → ℕ
-sentAfter sent flooding bytes = (sent + mul64 (countOf flooding 64) bytes) % 2 ^ 64
+sentAfter sent flooding bytes = add64 sent (mul64 (countOf flooding 64) (onAir bytes))
 
 -- Everybody ticks; a row may be due; the flooders send; the states turn; and the round is over once nobody will flood.
 abbrev pub afterPlan : RoundConf → ℕ → FloodRun → StateSets → FloodPlan → List Node → FloodRun

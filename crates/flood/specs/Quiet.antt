@@ -10,6 +10,7 @@ use Rattle.marks.specs.Marks.{countOf}
 use Rattle.loops.specs.Wrap.{mul64, add64}
 use Rattle.engines.specs.Clamp.{atMost64}
 use Rattle.engines.specs.Nodes.{noNode, isFlood, setsOf}
+use Rattle.engines.specs.Network.{onAir}
 use Rattle.engines.specs.Stretch.{Small, passing}
 use Rattle.engines.specs.declared.node.Node.{Node}
 use Rattle.engines.specs.declared.network.RoundConf.{RoundConf}
@@ -42,7 +43,7 @@ quietened conf bytes k f =
       network =
           passing conf k (f .network)
           (add64 (f .network .«bytes_sent»)
-          (mul64 k (mul64 (countOf (setsOf (conf .graph .n) (f .network .nodes) .flooding) 64) bytes)));
+          (mul64 k (mul64 (countOf (setsOf (conf .graph .n) (f .network .nodes) .flooding) 64) (onAir bytes))));
       draw = f .draw;
       over = f .over;
     }

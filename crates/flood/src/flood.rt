@@ -218,11 +218,11 @@ fn nobody_floods(at: [Node; 64], n: usize) -> bool
     s.flooding == 0
 }
 
-// What every flooder's packet adds to the bytes sent.
+// What the flooders add to the bytes sent: each a header and the packet.
 fn sent_after(sent: u64, flooding: u64, bytes: u64) -> u64
     ensures { λ r. ⌜ r ≡ sentAfter sent flooding bytes ⌝ }
 {
-    let each = votes::wrapping_mul(sets::count_marks(flooding) as u64, bytes);
+    let each = votes::wrapping_mul(sets::count_marks(flooding) as u64, network::on_air(bytes));
     std::num::wrapping_add_u64(sent, each)
 }
 

@@ -9,6 +9,7 @@ ghost use Rattle.flood.specs.Quiet.{quietened, QuietFor, QuietOf, QuietS
 use super::flood;
 use super::flood::FloodRun;
 use engines::clamp;
+use engines::network;
 use engines::network::Network;
 use engines::network::RoundConf;
 use engines::node;
@@ -102,7 +103,7 @@ fn pass_slots(conf: RoundConf, bytes: u64, f: FloodRun, k: u64) -> FloodRun
     let w = f.network;
     let at = w.nodes;
     let s = node::state_sets(at, conf.graph.n);
-    let each = votes::wrapping_mul(sets::count_marks(s.flooding) as u64, bytes);
+    let each = votes::wrapping_mul(sets::count_marks(s.flooding) as u64, network::on_air(bytes));
     let nodes = stretch::pass_all(at, conf.graph.n, k);
     let metrics = w.metrics;
     let draw = f.draw;

@@ -24,7 +24,7 @@ use Rattle.engines.specs.Rows.{isDue, nextRow, rowOf, rowsRefused}
 use Rattle.engines.specs.Settings.{lossAccepted, isLossy}
 use Rattle.capture.specs.Turns.{started, startedAll, nextState, turned, turnOf, turnedAll}
 use Rattle.engines.specs.Words.{shuffled}
-use Rattle.engines.specs.Network.{newNetwork, ticking, dueRow, slotRow, longRefusal, lateOf}
+use Rattle.engines.specs.Network.{newNetwork, ticking, onAir, dueRow, slotRow, longRefusal, lateOf}
 use Rattle.room.specs.Capturing.{proposeRefusal, proposedIn, proposePart, networkAfter, captureRefusal, capturedBy, capturePart}
 use Rattle.room.specs.Rooms.{openRefusal, roundLength}
 use Rattle.frame.specs.Lines.{numberAt, allHex, nameByte, nameFits, nameLength, hasName, isKind, isFrame, frameOf}
@@ -35,9 +35,9 @@ use Rattle.frame.specs.Play.{settingsOf, askedOf, proposing, capturing, 
 unfoldable alpha : List ℕ
 alpha = 48 ∷ 50 ∷ 48 ∷ 50 ∷ 48 ∷ 50 ∷ 48 ∷ 48 ∷ 48 ∷ 49 ∷ 48 ∷ 48 ∷ 48 ∷ 48 ∷ 48 ∷ 48 ∷ 54 ∷ 52 ∷ 48 ∷ 48 ∷ 48 ∷ 48 ∷ 48 ∷ 48 ∷ 49 ∷ 52 ∷ 48 ∷ 48 ∷ 48 ∷ 48 ∷ 48 ∷ 48 ∷ 48 ∷ 48 ∷ 48 ∷ 48 ∷ 48 ∷ 48 ∷ 48 ∷ 48 ∷ 48 ∷ 48 ∷ 48 ∷ 48 ∷ 48 ∷ 48 ∷ 48 ∷ 48 ∷ 48 ∷ 48 ∷ 48 ∷ 48 ∷ 48 ∷ 48 ∷ 48 ∷ 48 ∷ 48 ∷ 48 ∷ 48 ∷ 48 ∷ 48 ∷ 48 ∷ 48 ∷ 48 ∷ 48 ∷ 48 ∷ 48 ∷ 48 ∷ 48 ∷ 48 ∷ 48 ∷ 48 ∷ 48 ∷ 48 ∷ 48 ∷ 53 ∷ 52 ∷ 49 ∷ 52 ∷ 67 ∷ 53 ∷ 48 ∷ 52 ∷ 56 ∷ 52 ∷ 49 ∷ []
 
--- ALPHA 172
-alpha-listed : listingOf alpha ≡ 65 ∷ 76 ∷ 80 ∷ 72 ∷ 65 ∷ 32 ∷ 49 ∷ 55 ∷ 50 ∷ []
-unfolding alpha listingOf textOf frameOf isFrame allHex allOf isKind numberAt hasName nameLength nameFits nameByte playedOf linkedBy topologyOf builtOf playedIn askedOf openRefusal graphRefusal graphBy filled tabulate inside marks linkOf aheadOf nextRule lossAccepted le ofBits settingsOf endOf playOf playCapture upto captureTurn proposing proposePart proposeRefusal newNetwork capturing Rattle.room.specs.Rooms.captureOf captureRefusal proposedIn capturedBy answerOf refusalOf startOf roundLength afterRound go slotOf finished networkGoalOf allHold standingBy begun rankOf proposalOf adoptedOf settledOf voicedOf ensureOf noOf acknowledgedOf unanimousOf markedOf filledOf acted toldAll toldAt hearingOf planOf planAfter capturesOf overMarks targetsOf setsOf listens tickedAll tickAt startedAll ticked started coinsOf tossed1 timedOut captureAt turnedAll turnOf turned nextState canSleepOf goalOf whom captureOf heardFrom firstKept sendersOf floods noteAt examine1 isLossy shuffled downto mergeOf mergedBy heardOf outdated decidedOf onlyOf withMark sameTermOf ownOf raisedOf goalMet tallied tell slotRow dueRow rowOf ticking longRefusal lateOf rowsRefused isDue nextRow sentText nameOf decimal networkAfter capturePart sentOf sentAt payloadLen limits proposalData ceText dataText listText written bitmapText marksOf outcomeOf
+-- ALPHA 194
+alpha-listed : listingOf alpha ≡ 65 ∷ 76 ∷ 80 ∷ 72 ∷ 65 ∷ 32 ∷ 49 ∷ 57 ∷ 52 ∷ []
+unfolding alpha listingOf textOf frameOf isFrame allHex allOf isKind numberAt hasName nameLength nameFits nameByte playedOf linkedBy topologyOf builtOf playedIn askedOf openRefusal graphRefusal graphBy filled tabulate inside marks linkOf aheadOf nextRule lossAccepted le ofBits settingsOf endOf playOf playCapture upto captureTurn proposing proposePart proposeRefusal newNetwork capturing Rattle.room.specs.Rooms.captureOf captureRefusal proposedIn capturedBy answerOf refusalOf startOf roundLength afterRound go slotOf finished networkGoalOf allHold standingBy begun rankOf proposalOf adoptedOf settledOf voicedOf ensureOf noOf acknowledgedOf unanimousOf markedOf filledOf acted toldAll toldAt hearingOf planOf planAfter capturesOf overMarks targetsOf setsOf listens tickedAll tickAt startedAll ticked started coinsOf tossed1 timedOut captureAt turnedAll turnOf turned nextState canSleepOf goalOf whom captureOf heardFrom firstKept sendersOf floods noteAt examine1 isLossy shuffled downto mergeOf mergedBy heardOf outdated decidedOf onlyOf withMark sameTermOf ownOf raisedOf goalMet tallied tell slotRow dueRow rowOf ticking longRefusal lateOf rowsRefused isDue nextRow sentText nameOf decimal networkAfter capturePart sentOf sentAt onAir payloadLen limits proposalData ceText dataText listText written bitmapText marksOf outcomeOf
 alpha-listed = refl
 
 -- an empty line: refused 1

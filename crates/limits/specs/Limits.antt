@@ -20,6 +20,10 @@ bitmapEntries = 64
 abbrev pub dataBytes : ℕ
 dataBytes = 32
 
+-- the bytes that the radio puts before every payload
+abbrev pub headerBytes : ℕ
+headerBytes = 11
+
 -- the numbers of a row
 abbrev pub rowCells : ℕ
 rowCells = 5

@@ -13,5 +13,8 @@ pub const BITMAP: usize = 64;
 
 pub const DATA: usize = 32;
 
+// The bytes that the radio puts before every payload.
+pub const HEADER: u64 = 11;
+
 // The numbers of a row.
 pub const ROW: usize = 5;

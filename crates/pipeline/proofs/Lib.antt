@@ -12,3 +12,4 @@ pub mod Packing
 pub mod Valid
 pub mod Covering
 pub mod Traps
+pub mod Sent

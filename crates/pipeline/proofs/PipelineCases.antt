@@ -17,7 +17,7 @@ use Rattle.pipeline.specs.Pending.{noEntry, nackOf, joinMarks, commonMar
 use Rattle.pipeline.specs.Pipeline.{noState, dataOf, packetOf, samePacket, recordTx, isFresh, beginTx, recordDue, recordJudged, abortOf, knownVotes, roundPacket, prepareRound, isNew, hearNew, mergeRound, recordAborts, takeUp, isAnswer, answerNack, processOne, partsOf, processAt, processAll, shorterAt, shortestLog, progressAt, progressAll, stopsAt}
 use Rattle.pipeline.specs.Round.{newState, newPart, startDraw, runRound, deliverAll, isCovered, coverAt, coveredOf, initiatorOf, preparing, bytesOf, floodFrom, processing, closeRound, floodOf}
 use Rattle.engines.specs.Metrics.{withFrames}
-use Rattle.engines.specs.Network.{newNetwork}
+use Rattle.engines.specs.Network.{newNetwork, onAir}
 use Rattle.engines.specs.Rows.{isDue, nextRow, rowsRefused}
 use Rattle.engines.specs.Words.{nextOf, unitOf, lostOf}
 use Rattle.engines.specs.Marked.{overMarks, withMark}
@@ -87,10 +87,10 @@ module _ (x : RoundRun) where
       ∷ x .part .round
       ∷ []
 
--- Two positions that hear each other, nothing to agree on: each sends the 176 bytes once, and round 0 stops the room
+-- Two positions that hear each other, nothing to agree on: each sends the 176 bytes once, behind a header of 11, and round 0 stops the room
 -- after its second slot.
-pub mesh-of-two : (shown (runRound [] mesh2 newNetwork newPart (startDraw 0)) ≡ 2 ∷ 1 ∷ 2 ∷ 1 ∷ 2 ∷ 352 ∷ 0 ∷ []) × (runRound [] mesh2 newNetwork newPart (startDraw 0) .part .stop ≡ true)
-unfolding resetRound ticked tickAt tickedAll listens floods sleeps setsOf isDue nextRow rowsRefused nextOf unitOf lostOf overMarks withMark framed hearAt hearersOf sendAt floodPlan afterFlood afterListen nextNode turnAt turnedAll nobodyFloods sentAfter withFrames floodSlot resetAt resetAll floodStart floodRound joinMarks commonMarks withoutMark loggedAt loggedOf outcomeAt outcomeOf pushed finalizeTx unanimousOf openTx votesAt mergeVotes mergeAbort gapAt gapOf nackOf voteOf isJudged judgeAt judged fastOf abortAll ownVote dataOf packetOf samePacket recordTx isFresh beginTx recordDue recordJudged abortOf knownVotes roundPacket prepareRound isNew hearNew mergeRound recordAborts takeUp isAnswer answerNack processOne partsOf processAt processAll shorterAt shortestLog progressAt progressAll stopsAt deliverAll isCovered coverAt coveredOf initiatorOf preparing bytesOf floodFrom processing closeRound floodOf runRound newPart newNetwork upto downto go marks allOf countOf marksOf pipelineText bitmapText dataText limits decimal decimalF listText itemsText eq lt div ofInt round units odd span climb size ofBits ofFields
+pub mesh-of-two : (shown (runRound [] mesh2 newNetwork newPart (startDraw 0)) ≡ 2 ∷ 1 ∷ 2 ∷ 1 ∷ 2 ∷ 374 ∷ 0 ∷ []) × (runRound [] mesh2 newNetwork newPart (startDraw 0) .part .stop ≡ true)
+unfolding resetRound ticked tickAt tickedAll listens floods sleeps setsOf isDue nextRow rowsRefused nextOf unitOf lostOf overMarks withMark framed hearAt hearersOf sendAt floodPlan afterFlood afterListen nextNode turnAt turnedAll nobodyFloods onAir sentAfter withFrames floodSlot resetAt resetAll floodStart floodRound joinMarks commonMarks withoutMark loggedAt loggedOf outcomeAt outcomeOf pushed finalizeTx unanimousOf openTx votesAt mergeVotes mergeAbort gapAt gapOf nackOf voteOf isJudged judgeAt judged fastOf abortAll ownVote dataOf packetOf samePacket recordTx isFresh beginTx recordDue recordJudged abortOf knownVotes roundPacket prepareRound isNew hearNew mergeRound recordAborts takeUp isAnswer answerNack processOne partsOf processAt processAll shorterAt shortestLog progressAt progressAll stopsAt deliverAll isCovered coverAt coveredOf initiatorOf preparing bytesOf floodFrom processing closeRound floodOf runRound newPart newNetwork upto downto go marks allOf countOf marksOf pipelineText bitmapText dataText limits decimal decimalF listText itemsText eq lt div ofInt round units odd span climb size ofBits ofFields
 mesh-of-two = (refl, refl)
 
 -- Three positions in a line, and a round cut off after its first slot: the one in the middle has just begun to flood,
@@ -102,7 +102,7 @@ abbrev pub shortRound : RoundRun
 shortRound = runRound (18446744073709551615 ∷ []) line3 newNetwork newPart (startDraw 0)
 
 pub line-of-three : (node shortRound 0 .state ≡ Sleep) × (node shortRound 1 .state ≡ Flood) × (shortRound .part .holding ≡ 1) × (getD (shortRound .part .states) 0 noState .pending ≡ 1) × (getD (shortRound .part .states) 1 noState .pending ≡ 0)
-unfolding resetRound ticked tickAt tickedAll listens floods sleeps setsOf isDue nextRow rowsRefused nextOf unitOf lostOf overMarks withMark framed hearAt hearersOf sendAt floodPlan afterFlood afterListen nextNode turnAt turnedAll nobodyFloods sentAfter withFrames floodSlot resetAt resetAll floodStart floodRound joinMarks commonMarks withoutMark loggedAt loggedOf outcomeAt outcomeOf pushed finalizeTx unanimousOf openTx votesAt mergeVotes mergeAbort gapAt gapOf nackOf voteOf isJudged judgeAt judged fastOf abortAll ownVote dataOf packetOf samePacket recordTx isFresh beginTx recordDue recordJudged abortOf knownVotes roundPacket prepareRound isNew hearNew mergeRound recordAborts takeUp isAnswer answerNack processOne partsOf processAt processAll shorterAt shortestLog progressAt progressAll stopsAt deliverAll isCovered coverAt coveredOf initiatorOf preparing bytesOf floodFrom processing closeRound floodOf runRound newPart newNetwork upto downto go marks allOf countOf marksOf pipelineText bitmapText dataText limits decimal decimalF listText itemsText eq lt div ofInt round units odd span climb size ofBits ofFields
+unfolding resetRound ticked tickAt tickedAll listens floods sleeps setsOf isDue nextRow rowsRefused nextOf unitOf lostOf overMarks withMark framed hearAt hearersOf sendAt floodPlan afterFlood afterListen nextNode turnAt turnedAll nobodyFloods onAir sentAfter withFrames floodSlot resetAt resetAll floodStart floodRound joinMarks commonMarks withoutMark loggedAt loggedOf outcomeAt outcomeOf pushed finalizeTx unanimousOf openTx votesAt mergeVotes mergeAbort gapAt gapOf nackOf voteOf isJudged judgeAt judged fastOf abortAll ownVote dataOf packetOf samePacket recordTx isFresh beginTx recordDue recordJudged abortOf knownVotes roundPacket prepareRound isNew hearNew mergeRound recordAborts takeUp isAnswer answerNack processOne partsOf processAt processAll shorterAt shortestLog progressAt progressAll stopsAt deliverAll isCovered coverAt coveredOf initiatorOf preparing bytesOf floodFrom processing closeRound floodOf runRound newPart newNetwork upto downto go marks allOf countOf marksOf pipelineText bitmapText dataText limits decimal decimalF listText itemsText eq lt div ofInt round units odd span climb size ofBits ofFields
 line-of-three = (refl, refl, refl, refl, refl)
 
 -- Nack 0 means none: whoever lacks transaction 0 asks for nothing, even if it lacks transaction 1 as well; whoever
@@ -120,7 +120,7 @@ unfolding packetOf
 in-prepare n q = refl
 
 -- The Rust's answer on a line of 2 with T = 1 and loss 1/2: frames are lost such that position 0 logs Aborted in
--- round 2 and position 1, in the same round, Committed; 899 bytes, all five words drawn, and the room stops.
+-- round 2 and position 1, in the same round, Committed; 954 bytes, all five words drawn, and the room stops.
 abbrev pub mixed : PipelineConf
 mixed = inRoom 2 (2 ∷ 1 ∷ replicate 62 0) lossy 1 3
 
@@ -136,6 +136,6 @@ mixedEnd = again (again (runRound mixedWords mixed newNetwork newPart (startDraw
 abbrev pub logAt : ℕ → TxLog
 logAt i = getD (mixedEnd .part .states) i noState .log
 
-pub opposite-outcomes : (mixedEnd .network .«bytes_sent» ≡ 899) × (mixedEnd .part .stop ≡ true) × (mixedEnd .draw .at ≡ 5) × (mixedEnd .draw .short ≡ false) × (logAt 0 .len ≡ 1) × (getD (logAt 0 .entries) 0 noEntry .committed ≡ false) × (logAt 1 .len ≡ 1) × (getD (logAt 1 .entries) 0 noEntry .committed ≡ true)
-unfolding resetRound ticked tickAt tickedAll listens floods sleeps setsOf isDue nextRow rowsRefused nextOf unitOf lostOf overMarks withMark framed hearAt hearersOf sendAt floodPlan afterFlood afterListen nextNode turnAt turnedAll nobodyFloods sentAfter withFrames floodSlot resetAt resetAll floodStart floodRound joinMarks commonMarks withoutMark loggedAt loggedOf outcomeAt outcomeOf pushed finalizeTx unanimousOf openTx votesAt mergeVotes mergeAbort gapAt gapOf nackOf voteOf isJudged judgeAt judged fastOf abortAll ownVote dataOf packetOf samePacket recordTx isFresh beginTx recordDue recordJudged abortOf knownVotes roundPacket prepareRound isNew hearNew mergeRound recordAborts takeUp isAnswer answerNack processOne partsOf processAt processAll shorterAt shortestLog progressAt progressAll stopsAt deliverAll isCovered coverAt coveredOf initiatorOf preparing bytesOf floodFrom processing closeRound floodOf runRound newPart newNetwork upto downto go marks allOf countOf marksOf pipelineText bitmapText dataText limits decimal decimalF listText itemsText eq lt div ofInt round units odd span climb size ofBits ofFields
+pub opposite-outcomes : (mixedEnd .network .«bytes_sent» ≡ 954) × (mixedEnd .part .stop ≡ true) × (mixedEnd .draw .at ≡ 5) × (mixedEnd .draw .short ≡ false) × (logAt 0 .len ≡ 1) × (getD (logAt 0 .entries) 0 noEntry .committed ≡ false) × (logAt 1 .len ≡ 1) × (getD (logAt 1 .entries) 0 noEntry .committed ≡ true)
+unfolding resetRound ticked tickAt tickedAll listens floods sleeps setsOf isDue nextRow rowsRefused nextOf unitOf lostOf overMarks withMark framed hearAt hearersOf sendAt floodPlan afterFlood afterListen nextNode turnAt turnedAll nobodyFloods onAir sentAfter withFrames floodSlot resetAt resetAll floodStart floodRound joinMarks commonMarks withoutMark loggedAt loggedOf outcomeAt outcomeOf pushed finalizeTx unanimousOf openTx votesAt mergeVotes mergeAbort gapAt gapOf nackOf voteOf isJudged judgeAt judged fastOf abortAll ownVote dataOf packetOf samePacket recordTx isFresh beginTx recordDue recordJudged abortOf knownVotes roundPacket prepareRound isNew hearNew mergeRound recordAborts takeUp isAnswer answerNack processOne partsOf processAt processAll shorterAt shortestLog progressAt progressAll stopsAt deliverAll isCovered coverAt coveredOf initiatorOf preparing bytesOf floodFrom processing closeRound floodOf runRound newPart newNetwork upto downto go marks allOf countOf marksOf pipelineText bitmapText dataText limits decimal decimalF listText itemsText eq lt div ofInt round units odd span climb size ofBits ofFields
 opposite-outcomes = (refl, refl, refl, refl, refl, refl, refl, refl)

@@ -1,3 +1,4 @@
 pub mod Pending
 pub mod Pipeline
 pub mod Round
+pub mod Sent
