@@ -9,7 +9,7 @@ use ctsim::network::NetworkGraph;
 use ctsim::node::{Node, NodeState};
 use ctsim::phy::ce::run_ce_round;
 use ctsim::phy::ci::flood_identical_round;
-use ctsim::protocol::two_pc_ce::TwoPcCE;
+use ctsim::protocol::two_pc_ce::{CeTwoPcPacket, TwoPcCE, TwoPcCePhase};
 use ctsim::protocol::{MergeResult, ProposalOutcome, Protocol};
 use ctsim::sim::pipeline::CiPipelineCore;
 use rand_chacha::{ChaCha8Rng, MissingWord};
@@ -310,6 +310,25 @@ impl Capture {
     pub fn outcome(&self) -> ProposalOutcome {
         let payloads: Vec<Vec<u8>> = self.nodes.iter().map(|n| n.payload.clone()).collect();
         self.protocol.proposal_outcome(&payloads)
+    }
+
+    /// The outcome of RULES 6.7, from the packets that the Rust's positions hold. With TimedOut taken for Aborted it is
+    /// the Rust's own.
+    pub fn graded(&self) -> ProposalOutcome {
+        let holds = |n: &Node, phase| {
+            serde_json::from_slice::<CeTwoPcPacket>(&n.payload).is_ok_and(|p| p.phase == phase)
+        };
+        let aborted = self.nodes.iter().filter(|n| holds(n, TwoPcCePhase::Aborted)).count();
+        let committed = self.nodes.iter().filter(|n| holds(n, TwoPcCePhase::Committed)).count();
+        let (graded, mapped) = if aborted > 0 {
+            (ProposalOutcome::Aborted, ProposalOutcome::Aborted)
+        } else if committed == self.nodes.len() {
+            (ProposalOutcome::Committed, ProposalOutcome::Committed)
+        } else {
+            (ProposalOutcome::TimedOut, ProposalOutcome::Aborted)
+        };
+        assert_eq!(mapped, self.outcome(), "proposal_outcome, TimedOut taken for Aborted");
+        graded
     }
 }
 

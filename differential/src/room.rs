@@ -62,6 +62,9 @@ const LOG_ENTRY: u64 = 21;
 const PENDING: u64 = 22;
 const RECORD: u64 = 23;
 
+/// The outcomes of a proposal by their numbers, from 1 on.
+const OUTCOMES: [&str; 4] = ["", "Committed", "Aborted", "TimedOut"];
+
 /// The readings by their numbers, from the first on.
 const READINGS: [&str; 20] = [
     "kind",
@@ -437,8 +440,8 @@ impl<'a> Side<'a> {
     fn read(&self, c: &Call, text: &mut [u8]) -> Said {
         if let Some(k) = self.refusals(c, text.len()).into_iter().min() {
             let numbers = match c.which {
-                // an outcome is one of two; the other one's number is 1
-                17 => vec![2],
+                // an outcome is one of three; what is refused is beside the one that says least
+                17 => vec![3],
                 NODE => vec![0; 8],
                 LOG_ENTRY => vec![0; 3],
                 PENDING => vec![0; 37],
@@ -503,10 +506,10 @@ impl<'a> Side<'a> {
             (15, Theirs::Pipeline { room, .. }) => Said::one(u64::from(room.stopped)),
             (16, Theirs::Capture { room, .. }) => Said::one(room.initiator as u64),
             (16, Theirs::Pipeline { room, .. }) => Said::one(room.core.initiator() as u64),
-            (17, Theirs::Capture { room, .. }) => Said::one(match room.outcome() {
+            (17, Theirs::Capture { room, .. }) => Said::one(match room.graded() {
                 ProposalOutcome::Committed => 1,
                 ProposalOutcome::Aborted => 2,
-                ProposalOutcome::TimedOut => unreachable!("not by RULES 6.7, nor by two_pc_ce.rs"),
+                ProposalOutcome::TimedOut => 3,
             }),
             _ => unreachable!(),
         }

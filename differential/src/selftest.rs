@@ -326,6 +326,19 @@ fn captures(c: &mut Checks) {
         open(NetworkGraph::line(2), 1, 1, 1).outcome(),
         ProposalOutcome::Aborted,
     );
+    c.is(
+        "D13: undecided before a proposal",
+        open(NetworkGraph::line(2), 1, 1, 1).graded(),
+        ProposalOutcome::TimedOut,
+    );
+    let mut room = open(NetworkGraph::line(2), 100, 1, FOREVER);
+    room.propose(0);
+    room.round(&mut none()).unwrap();
+    c.is(
+        "a round of one slot: one has committed, the other not",
+        (room.graded(), room.outcome()),
+        (ProposalOutcome::TimedOut, ProposalOutcome::Aborted),
+    );
 
     // D7: a sleeper alternates, seen only with packets given by hand.
     let mut room = open(graph_of_rows(&[2, 0, 0]), 100, 3, FOREVER);

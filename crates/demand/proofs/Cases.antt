@@ -15,7 +15,7 @@ use Rattle.texts.specs.Readers.{listText, itemsText}
 use Rattle.graph.specs.Links.{graphBy, builtOf, nextRule, meshRule, aheadOf, linkOf, topologyOf, inside, rowsOf, graphRefusal}
 use Rattle.graph.specs.Paths.{diameterOf, lengthOf}
 use Rattle.packets.specs.Packets.{ceText, bitmapText, dataText, limits, pipelineText, proposalData}
-use Rattle.merges.specs.Merging.{payloadOf, filledOf, markedOf, onlyOf, joinOf, joinNews, unanimousOf, rankOf, ensureOf, decidedOf, acknowledgedOf, voicedOf, settledOf, adoptedOf, raisedOf, ownOf, sameTermOf, outdated, heardOf, mergedBy, mergeOf, proposalOf, standingBy, goalOf, canSleepOf, allHold, networkGoalOf, outcomeOf}
+use Rattle.merges.specs.Merging.{payloadOf, filledOf, markedOf, onlyOf, joinOf, joinNews, unanimousOf, rankOf, ensureOf, decidedOf, acknowledgedOf, voicedOf, settledOf, adoptedOf, raisedOf, ownOf, sameTermOf, outdated, heardOf, mergedBy, mergeOf, proposalOf, standingBy, goalOf, canSleepOf, allHold, anyHolds, networkGoalOf, outcomeOf}
 use Rattle.merges.specs.Votes.{noOf, hashOf, shareOf}
 use Rattle.merges.proofs.MergeCases.{all-no}
 use Rattle.engines.specs.Settings.{lossAccepted, isLossy}
@@ -37,6 +37,7 @@ use Rattle.room.specs.Capturing.{proposeRefusal, proposedIn, proposePart, raise
 use Rattle.room.specs.Pipelining.{pipelineRefusal, pipelinePart}
 use Rattle.room.specs.Rooms.{openRefusal, roundLength, newRoom, openOf, proposeOf, captureOf, pipelineOf}
 use Rattle.room.specs.Slots.{stagesFrom, captureSlots, pipelineSlots}
+use Rattle.readings.specs.Readings.{outcomeRead}
 use Rattle.demand.specs.Cases.{MinusZero, One, MarkedCases}
 use Rattle.demand.proofs.Resting.{alone-proposes, alone-ends}
 use Rattle.demand.proofs.Still.{capture-none, pipeline-none, no-slots}
@@ -62,7 +63,7 @@ one a l e = rw (l, e, one-not)
 -- ---- the table
 
 pub marked-cases : MarkedCases
-unfolding upto downto go tell tabulate filled marks anyOf allOf countOf marksOf decimal decimalF written listText itemsText graphBy builtOf nextRule meshRule aheadOf linkOf topologyOf inside rowsOf ceText bitmapText dataText limits noOf hashOf shareOf filledOf markedOf onlyOf joinOf joinNews unanimousOf rankOf ensureOf decidedOf acknowledgedOf voicedOf settledOf adoptedOf raisedOf ownOf sameTermOf outdated heardOf mergedBy mergeOf proposalData proposalOf standingBy goalOf canSleepOf allHold networkGoalOf outcomeOf lossAccepted isLossy overMarks withMark nextOf unitOf coinOf lostOf pickOf swapStep shuffled ticked tickAt tickedAll listens floods sleeps setsOf highestProgress rowOf isDue nextRow timedOut tossed1 coinsOf noteAt sendersOf examine1 firstKept heardFrom heardOfPlan whom tallied captureAt targetsOf capturesOf planAfter planOf started startedAll nextState turned turnOf turnedAll countedSlot payloadLen onAir sentAt sentOf hearingOf toldAt toldAll begun goalMet acted finished slotOf slotRow dueRow ticking startOf afterRound refusalOf answerOf openRefusal roundLength newRoom openOf proposeRefusal proposedIn proposePart proposeOf raised raisedAll networkAfter captureRefusal capturedBy capturePart captureOf stagesFrom captureSlots ofBits ofFields eq lt le div ofInt round units odd span climb size resetRound rowsRefused framed hearAt hearersOf sendAt floodPlan afterFlood afterListen nextNode turnAt floodTurned nobodyFloods sentAfter floodSlot resetAt resetAll floodStart floodRound floodRows joinMarks commonMarks withoutMark loggedAt loggedOf outcomeAt loggedOutcome pushed finalizeTx allVoted openTx votesAt mergeVotes mergeAbort gapAt gapOf nackOf voteOf isJudged judgeAt judged fastOf abortAll ownVote dataOf packetOf samePacket recordTx isFresh beginTx recordDue recordJudged abortOf knownVotes roundPacket prepareRound isNew hearNew mergeRound recordAborts takeUp isAnswer answerNack processOne partsOf processAt processAll shorterAt shortestLog progressAt progressAll stopsAt deliverAll isCovered coverAt coveredOf initiatorOf preparing bytesOf floodFrom closeRound floodOf runRound newPart newNetwork processing pipelineText diameterOf lengthOf floodLength earlyRefusal longRefusal graphRefusal withFrames lateOf lateRefusal roundRefusal rowsOfRound roundAnswer pipelineRefusal pipelinePart pipelineOf pipelineSlots payloadOf
+unfolding upto downto go tell tabulate filled marks anyOf allOf countOf marksOf decimal decimalF written listText itemsText graphBy builtOf nextRule meshRule aheadOf linkOf topologyOf inside rowsOf ceText bitmapText dataText limits noOf hashOf shareOf filledOf markedOf onlyOf joinOf joinNews unanimousOf rankOf ensureOf decidedOf acknowledgedOf voicedOf settledOf adoptedOf raisedOf ownOf sameTermOf outdated heardOf mergedBy mergeOf proposalData proposalOf standingBy goalOf canSleepOf allHold anyHolds networkGoalOf outcomeOf lossAccepted isLossy overMarks withMark nextOf unitOf coinOf lostOf pickOf swapStep shuffled ticked tickAt tickedAll listens floods sleeps setsOf highestProgress rowOf isDue nextRow timedOut tossed1 coinsOf noteAt sendersOf examine1 firstKept heardFrom heardOfPlan whom tallied captureAt targetsOf capturesOf planAfter planOf started startedAll nextState turned turnOf turnedAll countedSlot payloadLen onAir sentAt sentOf hearingOf toldAt toldAll begun goalMet acted finished slotOf slotRow dueRow ticking startOf afterRound refusalOf answerOf openRefusal roundLength newRoom openOf proposeRefusal proposedIn proposePart proposeOf raised raisedAll networkAfter captureRefusal capturedBy capturePart captureOf stagesFrom captureSlots ofBits ofFields eq lt le div ofInt round units odd span climb size resetRound rowsRefused framed hearAt hearersOf sendAt floodPlan afterFlood afterListen nextNode turnAt floodTurned nobodyFloods sentAfter floodSlot resetAt resetAll floodStart floodRound floodRows joinMarks commonMarks withoutMark loggedAt loggedOf outcomeAt loggedOutcome pushed finalizeTx allVoted openTx votesAt mergeVotes mergeAbort gapAt gapOf nackOf voteOf isJudged judgeAt judged fastOf abortAll ownVote dataOf packetOf samePacket recordTx isFresh beginTx recordDue recordJudged abortOf knownVotes roundPacket prepareRound isNew hearNew mergeRound recordAborts takeUp isAnswer answerNack processOne partsOf processAt processAll shorterAt shortestLog progressAt progressAll stopsAt deliverAll isCovered coverAt coveredOf initiatorOf preparing bytesOf floodFrom closeRound floodOf runRound newPart newNetwork processing pipelineText diameterOf lengthOf floodLength earlyRefusal longRefusal graphRefusal withFrames lateOf lateRefusal roundRefusal rowsOfRound roundAnswer pipelineRefusal pipelinePart pipelineOf pipelineSlots payloadOf outcomeRead
 marked-cases =
     record {
       capture-line = record {
@@ -81,6 +82,7 @@ marked-cases =
         counts = refl;
         outcome = refl;
       };
+      deadline-met = record { runs = refl; proposer = refl; hearer = refl; before = refl; outcome = refl };
       empty-recovery = record { runs = refl; empty = refl; timeouts = refl; attempts = refl; success = refl; bytes = refl };
       pipeline-mesh = record {
         mesh = refl;

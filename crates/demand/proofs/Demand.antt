@@ -72,7 +72,7 @@ ran (c ∷ cs) r i =
 -- ---- what the invariant of two moments and the order between them come to
 
 -- what a position that holds a phase claims
-claimed : (r : Room) (v t : ℕ) (f : TwoPcPhase) → Inv r → HoldsValue r v t f → Claim (noesOf (r .conf)) (sizeOf r) t f (heldAt r v .packet .«flags_bitmap»)
+pub claimed : (r : Room) (v t : ℕ) (f : TwoPcPhase) → Inv r → HoldsValue r v t f → Claim (noesOf (r .conf)) (sizeOf r) t f (heldAt r v .packet .«flags_bitmap»)
 claimed r v t f i h =
     let p = heldAt r v .packet in
     let nay = noesOf (r .conf) in
@@ -81,7 +81,7 @@ claimed r v t f i h =
     (subst (λ (g : TwoPcPhase). Claim nay (sizeOf r) (p .term) g (p .«flags_bitmap»)) (h .phase) s)
 
 -- all yes and one no
-apart : (nay : ℕ → ℕ → Bool) (n t : ℕ) → AllYes nay n t → SomeNo nay n t → ⊥
+pub apart : (nay : ℕ → ℕ → Bool) (n t : ℕ) → AllYes nay n t → SomeNo nay n t → ⊥
 apart nay n t a s = let z : _≡_ {A = ℕ} 0 1 = cc (a (s .0) (s .1), s .2) in omega arith
 
 commit-rank : (f : TwoPcPhase) → rankOf Committed ≤ rankOf f → (f ≡ Aborted → ⊥) → f ≡ Committed

@@ -7,3 +7,4 @@ pub mod Cases
 pub mod Rounds
 pub mod Listing
 pub mod Covered
+pub mod Outcomes

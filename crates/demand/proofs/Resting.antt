@@ -11,10 +11,10 @@ use native.Mathlib.Nat.{mod-eq-of-lt}
 use native.Mathlib.Omega.{arith}
 use Rattle.loops.specs.Runs.{go, tell, told-stop}
 use Rattle.limits.specs.Limits.{lastSlot, lastTerm}
-use Rattle.marks.specs.Marks.{marks, allOf}
+use Rattle.marks.specs.Marks.{marks, anyOf, allOf}
 use Rattle.merges.specs.Votes.{noOf}
 use Rattle.loops.specs.Wrap.{add64}
-use Rattle.merges.specs.Merging.{Noes, settled, onlyOf, noPayload, standingBy, rankOf, allHold, networkGoalOf, outcomeOf, proposalOf, adoptedOf, ensureOf, filledOf, voicedOf, acknowledgedOf, markedOf, settledOf, unanimousOf, decidedOf}
+use Rattle.merges.specs.Merging.{Noes, settled, onlyOf, noPayload, standingBy, rankOf, allHold, anyHolds, networkGoalOf, outcomeOf, proposalOf, adoptedOf, ensureOf, filledOf, voicedOf, acknowledgedOf, markedOf, settledOf, unanimousOf, decidedOf}
 use Rattle.merges.specs.declared.votes.Voting.{Voting}
 use Rattle.packets.specs.declared.TwoPcPhase.the-variants.{Committed}
 use Rattle.packets.specs.declared.CeTwoPcPacket.{CeTwoPcPacket}
@@ -184,7 +184,7 @@ proposal-alone nay t e =
     (λ f. refl)
 
 outcome-alone : (ls : List Payload) → getD ls 0 noPayload .held ≡ Packet → getD ls 0 noPayload .packet .phase ≡ Committed → outcomeOf 1 ls ≡ outcome.Committed
-unfolding outcomeOf allHold allOf standingBy rankOf
+unfolding outcomeOf anyHolds allHold anyOf allOf standingBy rankOf
 outcome-alone ls h f = rw (h, f)
 
 pub alone-proposes : AloneProposes

@@ -12,7 +12,7 @@ use Rattle.limits.specs.Refusals.{badLoss}
 use Rattle.graph.specs.Links.{isSize, rowsOf, graphRefusal, topologyOf}
 use Rattle.merges.specs.Votes.{noOf}
 use Rattle.merges.specs.Merging.{payloadOf, Noes, mergeOf, redundant, networkGoalOf, outcomeOf}
-use Rattle.packets.specs.declared.TwoPcPhase.the-variants.{Committed}
+use Rattle.packets.specs.declared.TwoPcPhase.the-variants.{Prepare, Committed}
 use Rattle.packets.specs.declared.CeTwoPcPacket.{CeTwoPcPacket}
 use Rattle.merges.specs.declared.merging.Held.the-variants.{Empty, Packet}
 use Rattle.merges.specs.declared.merging.Payload.{Payload}
@@ -31,6 +31,7 @@ use Rattle.room.specs.declared.room.RoundAnswer.{RoundAnswer}
 use Rattle.room.specs.Kinds.{isPipeline}
 use Rattle.room.specs.Rooms.{sizeOf, heldAt, openOf, proposeOf, captureOf, pipelineOf}
 use Rattle.room.specs.Slots.{captureSlots, pipelineSlots}
+use Rattle.readings.specs.Readings.{outcomeRead}
 
 -- ---- what a room shows
 
@@ -97,6 +98,21 @@ pub record LineOfTwo : Type 0 where
   pub ends : captured .room .network .slot ≡ 3
   pub counts : countsOfTwo (captured .room) ≡ 3 ∷ 3 ∷ 0 ∷ []
   pub outcome : outcomeOf 2 (captured .room .capture .held) ≡ outcome.Committed
+
+-- The same with rounds of one slot: position 1 has committed by then, and position 0 has not heard of it.
+abbrev pub shortRoom : Opening
+shortRoom = openOf (asking kinds.Capture (plain true 1) 1)
+
+abbrev pub cut : RoundAnswer
+cut = captureOf [] 5 0 (proposeOf (shortRoom .room) 0 .room) 0
+
+pub record DeadlineMet : Type 0 where
+  pub runs : cut .refusal ≡ 0
+  pub proposer : heldAt (cut .room) 0 .packet .phase ≡ Prepare
+  pub hearer : heldAt (cut .room) 1 .packet .phase ≡ Committed
+  -- the outcome that is read out: before anybody proposed, and when the slots have run out
+  pub before : outcomeRead (shortRoom .room) ≡ record { refusal = 0; outcome = outcome.TimedOut }
+  pub outcome : outcomeRead (cut .room) ≡ record { refusal = 0; outcome = outcome.TimedOut }
 
 -- Two positions of which 0 hears 1 and nobody hears 0, timeout 1, rounds of 3 slots, and the coins no, yes, no:
 -- position 1, which holds nothing, recovers in the second slot and floods in the third.
@@ -269,6 +285,8 @@ pub record MarkedCases : Type 0 where
   -- Two positions in a line, nobody votes no, position 0 proposes: it sends 85 bytes, then the other 87, each behind
   -- a header, and in the third slot both hold Committed.
   pub capture-line : LineOfTwo
+  -- The slots run out after the first of these three: one has committed, the other knows nothing of it. It timed out.
+  pub deadline-met : DeadlineMet
   -- A flood of nothing is on air too: 85 bytes and a header, then a header alone.
   pub empty-recovery : EmptyRecovery
   -- Two positions that hear each other, nothing to agree on: each floods once, both hold the packet, and the room stops.

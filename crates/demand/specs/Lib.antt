@@ -4,3 +4,4 @@ pub mod Texts
 pub mod Cases
 pub mod Rounds
 pub mod Covered
+pub mod Outcomes

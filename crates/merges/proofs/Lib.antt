@@ -11,3 +11,4 @@ pub mod Marking
 pub mod Limits
 pub mod Proposing
 pub mod Staying
+pub mod Outcomes

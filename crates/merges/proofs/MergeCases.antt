@@ -12,13 +12,13 @@ use Rattle.marks.specs.Marks.{marks, anyOf, allOf}
 use Rattle.texts.specs.Decimal.{decimal, decimalF}
 use Rattle.texts.specs.Put.{written}
 use Rattle.merges.specs.Votes.{hashOf, shareOf, noOf}
-use Rattle.merges.specs.Merging.{filledOf, markedOf, onlyOf, joinOf, joinNews, unanimousOf, rankOf, ensureOf, decidedOf, acknowledgedOf, voicedOf, settledOf, adoptedOf, raisedOf, ownOf, sameTermOf, outdated, heardOf, mergedBy, mergeOf, proposalOf, standingBy, goalOf, canSleepOf, allHold, networkGoalOf, outcomeOf}
+use Rattle.merges.specs.Merging.{filledOf, markedOf, onlyOf, joinOf, joinNews, unanimousOf, rankOf, ensureOf, decidedOf, acknowledgedOf, voicedOf, settledOf, adoptedOf, raisedOf, ownOf, sameTermOf, outdated, heardOf, mergedBy, mergeOf, proposalOf, standingBy, goalOf, canSleepOf, allHold, anyHolds, networkGoalOf, outcomeOf}
 use Rattle.merges.specs.Late.{happened, after, history}
 use Rattle.packets.specs.Packets.{proposalData}
 use Rattle.merges.specs.MergeCases.{MergeTable, AllNo, NanYes}
 
 pub merge-table : MergeTable
-unfolding noOf hashOf shareOf div ofInt ofBits lt le marks anyOf allOf decimal decimalF written filledOf markedOf onlyOf joinOf joinNews unanimousOf rankOf ensureOf decidedOf acknowledgedOf voicedOf settledOf adoptedOf raisedOf ownOf sameTermOf outdated heardOf mergedBy mergeOf proposalData proposalOf standingBy goalOf canSleepOf allHold networkGoalOf outcomeOf happened after history
+unfolding noOf hashOf shareOf div ofInt ofBits lt le marks anyOf allOf decimal decimalF written filledOf markedOf onlyOf joinOf joinNews unanimousOf rankOf ensureOf decidedOf acknowledgedOf voicedOf settledOf adoptedOf raisedOf ownOf sameTermOf outdated heardOf mergedBy mergeOf proposalData proposalOf standingBy goalOf canSleepOf allHold anyHolds networkGoalOf outcomeOf happened after history
 merge-table = (
   (refl, refl),
   (refl, refl),
@@ -30,7 +30,7 @@ merge-table = (
   refl,
   (refl, refl, refl),
   (refl, refl, refl, refl, refl, refl),
-  (refl, refl, refl, refl, refl, refl, refl),
+  (refl, refl, refl, refl, refl, refl, refl, refl, refl, refl, refl, refl, refl),
   (
     ((refl, refl, refl), (refl, refl, refl), (refl, refl, refl)),
     ((refl, refl, refl), refl, (refl, refl, refl)),

@@ -215,6 +215,10 @@ allHold n k ls = (ltb 0 n && leb n positions) && allOf n (λ i. eqb (standingOf 
 unfoldable pub networkGoalOf : ℕ → List Payload → Bool
 networkGoalOf n ls = allHold n 2 ls || allHold n 3 ls
 
--- the proposal stands only if everybody has committed
+-- of the first n of 64 positions one or more hold phase k - 1
+unfoldable pub anyHolds : ℕ → ℕ → List Payload → Bool
+anyHolds n k ls = leb n positions && anyOf n (λ i. eqb (standingOf (getD ls i noPayload)) k)
+
+-- One abort is enough, a commit takes everybody; all else was not decided in time.
 unfoldable pub outcomeOf : ℕ → List Payload → ProposalOutcome
-outcomeOf n ls = either (allHold n 2 ls) outcome.Committed outcome.Aborted
+outcomeOf n ls = either (anyHolds n 3 ls) outcome.Aborted (either (allHold n 2 ls) outcome.Committed outcome.TimedOut)

@@ -15,7 +15,7 @@ ghost use Prim.Native.Nat.{ℕ, max};
 ghost use lib.Dec.{ltb};
 ghost use Rattle.marks.specs.Marks.{has, marks};
 ghost use Rattle.merges.specs.Votes.{noOf};
-ghost use Rattle.merges.specs.Merging.{entry, filledOf, markedOf, onlyOf, joinOf, joinNews, unanimousOf, rankOf, withState, ensureOf, decidedOf, acknowledgedOf, voicedOf, settled, adoptedOf, raisedOf, ownOf, sameTermOf, redundant, newInfo, outdated, heardOf, mergeOf, blank, proposalOf, standingOf, goalOf, canSleepOf, allHold, outcomeOf};
+ghost use Rattle.merges.specs.Merging.{entry, filledOf, markedOf, onlyOf, joinOf, joinNews, unanimousOf, rankOf, withState, ensureOf, decidedOf, acknowledgedOf, voicedOf, settled, adoptedOf, raisedOf, ownOf, sameTermOf, redundant, newInfo, outdated, heardOf, mergeOf, blank, proposalOf, standingOf, goalOf, canSleepOf, allHold, anyHolds, outcomeOf};
 ghost use Rattle.merges.specs.Slips.{packetOf, draftOf, whose, HeardBy};
 ghost use Rattle.merges.specs.declared.merging.Held.the-variants.{Packet};
 ghost use Rattle.packets.specs.Packets.{proposalData};
@@ -30,6 +30,7 @@ pub enum MergeResult {
 pub enum ProposalOutcome {
     Committed,
     Aborted,
+    TimedOut,
 }
 
 // What a payload is: nothing, a text that is no packet, or a packet.
@@ -517,12 +518,33 @@ fn all_stand(payloads: [Payload; 64], n: usize, k: u64) -> bool
     true
 }
 
-// What is not committed everywhere by the deadline is aborted.
+// One of the first n positions stands at k, or more.
+fn any_stands(payloads: [Payload; 64], n: usize, k: u64) -> bool
+    ensures { λ r. ⌜ r ≡ anyHolds n k payloads ⌝ }
+{
+    if n > limits::POSITIONS {
+        return false;
+    }
+    let mut i = 0;
+    while i < n {
+        let payload = payloads[i];
+        if standing(payload) == k {
+            return true;
+        }
+        i += 1;
+    }
+    false
+}
+
+// An abort at one position is an abort, whatever the others hold; what not everybody has committed by then timed out.
 pub fn proposal_outcome(payloads: [Payload; 64], n: usize) -> ProposalOutcome
     ensures { λ r. ⌜ r ≡ outcomeOf n payloads ⌝ }
 {
+    if any_stands(payloads, n, 3) {
+        return ProposalOutcome::Aborted;
+    }
     if all_stand(payloads, n, 2) {
         return ProposalOutcome::Committed;
     }
-    ProposalOutcome::Aborted
+    ProposalOutcome::TimedOut
 }

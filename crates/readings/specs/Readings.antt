@@ -73,11 +73,11 @@ initiatorNow r =
     (numberIf (either (r .capture .proposed) 0 noProposal) (r .capture .initiator)))
     (record { refusal = badPositions; value = 0 })
 
--- Committed only if everybody holds it.
+-- Aborted if anybody holds it, Committed if everybody does, and else TimedOut, which stands beside a refusal too.
 unfoldable pub outcomeRead : Room → OutcomeReading
 outcomeRead r =
     let k = orElse (either (isSize (sizeOf r)) 0 badPositions) (captureOnly (r .conf .kind)) in
-    either (eqb k 0) (record { refusal = 0; outcome = outcomeOf (sizeOf r) (r .capture .held) }) (record { refusal = k; outcome = outcome.Aborted })
+    either (eqb k 0) (record { refusal = 0; outcome = outcomeOf (sizeOf r) (r .capture .held) }) (record { refusal = k; outcome = outcome.TimedOut })
 
 -- ---- of a position
 

@@ -275,7 +275,7 @@ fn size_refusal(n: usize) -> u64
     0
 }
 
-// Committed if everybody holds it, Aborted by any deadline otherwise.
+// Aborted if anybody holds it, Committed if everybody does; all else, and what is refused, is undecided.
 pub fn proposal_outcome(r: Room) -> OutcomeReading
     ensures { λ k. ⌜ k ≡ outcomeRead r ⌝ }
 {
@@ -285,7 +285,7 @@ pub fn proposal_outcome(r: Room) -> OutcomeReading
     if refusal != 0 {
         return OutcomeReading {
             refusal,
-            outcome: ProposalOutcome::Aborted,
+            outcome: ProposalOutcome::TimedOut,
         };
     }
     let t = r.capture;

@@ -32,10 +32,11 @@ abbrev pub kindNumber : RoomKind → ℕ
 kindNumber kinds.Pipeline = 1
 kindNumber kinds.Capture = 2
 
--- as the phase of that name
+-- as the phase of that name; what no phase is called is 3
 abbrev pub outcomeNumber : ProposalOutcome → ℕ
 outcomeNumber outcomes.Committed = 1
 outcomeNumber outcomes.Aborted = 2
+outcomeNumber outcomes.TimedOut = 3
 
 -- 1 if there is a ratio, which is then a float
 abbrev pub ratioNumber : Ratio → ℕ

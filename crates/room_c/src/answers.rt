@@ -47,6 +47,7 @@ pub fn outcome_number(outcome: ProposalOutcome) -> u64
     match outcome {
         ProposalOutcome::Committed => 1,
         ProposalOutcome::Aborted => 2,
+        ProposalOutcome::TimedOut => 3,
     }
 }
 

@@ -560,7 +560,7 @@ fn notice_reading(m: &mut Met, c: &Call, said: &Said) {
     }
     match c.which {
         11 | 12 if said.numbers[0] == 1 => met(m, &format!("reading {name}, a ratio")),
-        17 if said.numbers[0] == 1 => met(m, &format!("reading {name}, Committed")),
+        17 => met(m, &format!("reading {name}, {}", OUTCOMES[said.numbers[0] as usize])),
         TEXT if said.numbers[0] > 0 => met(m, &format!("reading {name}, a text")),
         LOG_ENTRY | PENDING | RECORD if said.numbers[0] == 1 => met(m, &format!("reading {name}, there")),
         _ => {}

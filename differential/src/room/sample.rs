@@ -189,6 +189,10 @@ fn cases() -> Vec<(&'static str, Question)> {
             "the same after a proposal and its round",
             q(2, 2, 2, 0).calls(&[propose(0), captured]).all(&[0, 1]),
         ),
+        (
+            "the same with rounds of one slot, which is too few",
+            q(2, 2, 2, 0).with(|s| s.slots = 1).calls(&[propose(0), captured]).all(&[0, 1]),
+        ),
         ("pipeline, mesh of 2, T 0, as opened", q(1, 1, 2, 0).all(&[0, 1, 2])),
         (
             "the same after a round, which stops it",
