@@ -18,6 +18,7 @@ use Rattle.merges.specs.Merging.{outcomeOf}
 use Rattle.merges.specs.Outcomes.{InPhase, OutcomeSays}
 use Rattle.merges.specs.declared.merging.ProposalOutcome.{ProposalOutcome}
 use Rattle.merges.specs.declared.merging.ProposalOutcome.the-variants.{Committed, Aborted, TimedOut}
+use Rattle.merges.proofs.Safety.{either-cases}
 use Rattle.merges.proofs.Outcomes.{outcomes-say}
 use Rattle.engines.specs.Network.{orElse}
 use Rattle.room.specs.declared.room.RoomKind.{RoomKind}
@@ -27,6 +28,7 @@ use Rattle.room.specs.declared.room.Room.{Room}
 use Rattle.room.specs.Kinds.{positionsOf}
 use Rattle.room.specs.Capturing.{noesOf}
 use Rattle.room.specs.declared.room.Asked.{Asked}
+use Rattle.room.specs.declared.room.Opening.{Opening}
 use Rattle.room.specs.Rooms.{sizeOf, heldAt, openRefusal, newRoom, openOf}
 use Rattle.readings.specs.declared.readings.OutcomeReading.{OutcomeReading}
 use Rattle.readings.specs.Readings.{captureOnly, outcomeRead}
@@ -152,15 +154,12 @@ module _ {a b : Room} (i : Inv a) (j : Inv b) (l : Le a b) where
 
 -- ---- lists of calls
 
-decide : {P : Type 0} (b : Bool) → (b ≡ true → P) → (b ≡ false → P) → P
-decide true f g = f refl
-decide false f g = g refl
-
 some-position : (asked : Asked) → openOf asked .refusal ≡ 0 → 0 < sizeOf (openOf asked .room)
 unfolding openOf newRoom
-some-position asked z =
-    decide (eqb (openRefusal asked) 0) (λ o. rw o (opened-size asked (eqb-true (openRefusal asked) 0 o) .0))
-    (λ o. absurd (eqb-false (openRefusal asked) 0 o (rw o at z)))
+some-position asked =
+    either-cases (λ (o : Opening). o .refusal ≡ 0 → 0 < sizeOf (o .room)) (eqb (openRefusal asked) 0)
+    (λ e z. opened-size asked (eqb-true (openRefusal asked) 0 e) .0)
+    (λ e z. absurd (eqb-false (openRefusal asked) 0 e z))
 
 pub outcomes-hold : OutcomesHold
 outcomes-hold asked l e calls a h =
