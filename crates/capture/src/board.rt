@@ -46,7 +46,7 @@ pub(crate) const FROM: usize = 448;
 pub(crate) const DATA: usize = 512;
 
 // The positions that hold a packet of each phase, and those that hold a text that is none.
-#[derive(Drop)]
+#[derive(Clone, Copy)]
 pub struct Phases {
     pub prepared: u64,
     pub committed: u64,
@@ -56,7 +56,7 @@ pub struct Phases {
 
 // A round between two slots, but for the table: who is in which state, who has reached its goal, who holds what, who
 // can sleep by what it holds; and the numbers of the network, the cursor, and whether the goal test was passed.
-#[derive(Drop)]
+#[derive(Clone, Copy)]
 pub struct Board {
     pub states: StateSets,
     pub goal_reached: u64,
@@ -71,7 +71,7 @@ pub struct Board {
 }
 
 // What a slot goes by, beside the links.
-#[derive(Drop)]
+#[derive(Clone, Copy)]
 pub struct CeFixed {
     pub voting: Voting,
     pub loss_rate: f64,
@@ -190,7 +190,7 @@ pub(crate) fn put_phase(p: Phases, i: usize, phase: TwoPcPhase) -> Phases
 // ---- in
 
 // The sets that a round starts with, beside those of states.
-#[derive(Drop)]
+#[derive(Clone, Copy)]
 pub struct Noted {
     pub goal_reached: u64,
     pub phases: Phases,

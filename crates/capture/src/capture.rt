@@ -20,7 +20,7 @@ use merges::merging::Payload;
 use merges::votes::Voting;
 
 // A round between two slots: the network, what each position holds, the cursor, and whether the goal test was passed.
-#[derive(Drop)]
+#[derive(Clone, Copy)]
 pub struct CeState {
     pub network: Network,
     pub held: [Payload; 64],
@@ -106,7 +106,7 @@ fn slot(words: &[u64], links: &[u64; 64], f: CeFixed, b: Board, table: &mut [u64
 // ---- a run of slots: one that only counts its rows, and one that writes them
 
 // A round after a step, and how many slots it has left.
-#[derive(Drop)]
+#[derive(Clone, Copy)]
 pub struct CeStep {
     pub board: Board,
     pub left: u64,
@@ -143,7 +143,7 @@ fn advance(
 }
 
 // A round that was run, and how many rows are due.
-#[derive(Drop)]
+#[derive(Clone, Copy)]
 pub struct CeRun {
     pub board: Board,
     pub due: u64,
@@ -227,7 +227,7 @@ fn record_run(
 // ---- the round
 
 // What a round hands back: the refusal, 0 for none; the state, as it was if refused; how many rows are used.
-#[derive(Drop)]
+#[derive(Clone, Copy)]
 pub struct CeAnswer {
     pub refusal: u64,
     pub state: CeState,
@@ -235,7 +235,7 @@ pub struct CeAnswer {
 }
 
 // A round that was run, as the rules have it, and how many rows are due.
-#[derive(Drop)]
+#[derive(Clone, Copy)]
 struct CeSurvey {
     state: CeState,
     due: u64,

@@ -14,7 +14,7 @@ use merges::votes::Voting;
 use packets::{TwoPcPhase, two_pc_ce};
 
 // What positions hold so far in a slot, who can sleep by it, and to whom it was new.
-#[derive(Drop)]
+#[derive(Clone, Copy)]
 pub struct Told {
     pub phases: Phases,
     pub can_sleep: u64,

@@ -13,14 +13,14 @@ use engines::{settings, words};
 use graph::sets;
 
 // Who recovers so far, and the cursor.
-#[derive(Drop)]
+#[derive(Clone, Copy)]
 pub struct Coins {
     pub recovering: u64,
     pub draw: Draw,
 }
 
 // How many senders were examined for a target, whether one survived, and which came last.
-#[derive(Drop)]
+#[derive(Clone, Copy)]
 pub struct Heard {
     pub examined: usize,
     pub found: bool,
@@ -29,7 +29,7 @@ pub struct Heard {
 }
 
 // What the captures of a slot count.
-#[derive(Drop)]
+#[derive(Clone, Copy)]
 pub struct Reception {
     pub draw: Draw,
     pub rx_attempts: u64,
@@ -38,7 +38,7 @@ pub struct Reception {
 
 // What the words of a slot decide, beside whom each position hears: a mark for each that recovers, the targets, and
 // the slot's counts.
-#[derive(Drop)]
+#[derive(Clone, Copy)]
 pub struct SlotPlan {
     pub recovering: u64,
     pub targets: u64,

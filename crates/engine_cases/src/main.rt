@@ -18,7 +18,7 @@ use merges::merging::{Held, Payload};
 use merges::votes::Voting;
 
 // The numbers of a line, and the number that is being read.
-#[derive(Drop)]
+#[derive(Clone, Copy)]
 struct Line {
     count: usize,
     at: [u64; 16],

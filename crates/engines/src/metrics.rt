@@ -3,7 +3,7 @@ ghost use Rattle.std.specs.Prelude.{◌≡◌};
 ghost use Rattle.engines.specs.Metrics.{no_metrics, ratio_of, link_pdr_of, flood_coverage_of, with_frames};
 
 // All counts add in 64 bits.
-#[derive(Drop)]
+#[derive(Clone, Copy)]
 pub struct MetricsCollector {
     pub nacks_sent: u64,
     pub piggybacks_sent: u64,
@@ -16,7 +16,7 @@ pub struct MetricsCollector {
 }
 
 // A ratio of two counts, where there is one.
-#[derive(Drop)]
+#[derive(Clone, Copy)]
 pub enum Ratio {
     None,
     Some(f64),

@@ -11,7 +11,7 @@ use graph::network::NetworkGraph;
 use limits::refusals;
 
 // The positions, what is counted beside them, the present slot, the slot of the next row, and the bytes sent.
-#[derive(Drop)]
+#[derive(Clone, Copy)]
 pub struct Network {
     pub nodes: [Node; 64],
     pub metrics: MetricsCollector,
@@ -21,7 +21,7 @@ pub struct Network {
 }
 
 // What no round changes: who hears whom, the settings, the interval of the rows, and the full length of a round.
-#[derive(Drop)]
+#[derive(Clone, Copy)]
 pub struct RoundConf {
     pub graph: NetworkGraph,
     pub settings: Settings,

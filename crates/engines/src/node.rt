@@ -7,7 +7,7 @@ ghost use Rattle.engines.specs.Nodes.{no_node, reset_round, ticked, ticked_all, 
 use super::clamp;
 use graph::sets;
 
-#[derive(Drop)]
+#[derive(Clone, Copy)]
 pub enum NodeState {
     Listen,
     Flood,
@@ -15,7 +15,7 @@ pub enum NodeState {
 }
 
 // The small fields stand together, so that a position takes 48 bytes.
-#[derive(Drop)]
+#[derive(Clone, Copy)]
 pub struct Node {
     pub state: NodeState,
     pub goal_reached: bool,
@@ -90,7 +90,7 @@ pub fn tick_all(at: [Node; 64], n: usize) -> [Node; 64]
 }
 
 // The positions in each state, a mark each.
-#[derive(Drop)]
+#[derive(Clone, Copy)]
 pub struct StateSets {
     pub listening: u64,
     pub flooding: u64,

@@ -8,7 +8,7 @@ use super::clamp;
 use super::node::Node;
 use graph::sets;
 
-#[derive(Drop)]
+#[derive(Clone, Copy)]
 pub struct Row {
     pub slot: u64,
     pub progress: u64,

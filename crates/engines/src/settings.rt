@@ -4,7 +4,7 @@ ghost use Rattle.engines.specs.Settings.{loss_accepted, is_lossy};
 
 // A capture round reads the listen timeout, a flood the repeats. The round's slots may be left open for a flood, which
 // then reckons them from the diameter.
-#[derive(Drop)]
+#[derive(Clone, Copy)]
 pub struct Settings {
     pub loss_rate: f64,
     pub abort_probability: f64,

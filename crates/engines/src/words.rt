@@ -5,13 +5,13 @@ ghost use Rattle.engines.specs.Words.{unit_of, next_of, coin_of, lost_of, pick_o
 use super::clamp;
 
 // The place of the next word, and whether a word was asked for past the end. The cursor may be any number.
-#[derive(Drop)]
+#[derive(Clone, Copy)]
 pub struct Draw {
     pub at: usize,
     pub short: bool,
 }
 
-#[derive(Drop)]
+#[derive(Clone, Copy)]
 pub struct Drawn {
     pub word: u64,
     pub draw: Draw,

@@ -14,7 +14,7 @@ use graph::sets;
 use merges::votes;
 
 // Who receives in a slot, and what that draws and counts.
-#[derive(Drop)]
+#[derive(Clone, Copy)]
 pub struct FloodPlan {
     pub received: u64,
     pub draw: Draw,
@@ -23,7 +23,7 @@ pub struct FloodPlan {
 }
 
 // A round between two slots: the network, the cursor, and whether nobody will flood.
-#[derive(Drop)]
+#[derive(Clone, Copy)]
 pub struct FloodRun {
     pub network: Network,
     pub draw: Draw,
@@ -31,7 +31,7 @@ pub struct FloodRun {
 }
 
 // What a flood tells: whether words ran short and, if they did not, how many rows are due and how it ended.
-#[derive(Drop)]
+#[derive(Clone, Copy)]
 pub struct Flooded {
     pub short: bool,
     pub due: u64,
@@ -257,7 +257,7 @@ fn ran_short(f: FloodRun) -> bool
 }
 
 // Where a run without rows has come to, and the rows due by then.
-#[derive(Drop)]
+#[derive(Clone, Copy)]
 pub(crate) struct FloodSurvey {
     pub run: FloodRun,
     pub due: u64,

@@ -14,7 +14,7 @@ use graph::sets;
 use merges::votes;
 
 // A round behind a step, and the slots that it still has.
-#[derive(Drop)]
+#[derive(Clone, Copy)]
 pub(crate) struct FloodStep {
     pub run: FloodRun,
     pub left: u64,

@@ -6,7 +6,7 @@ use crate::bounds::DIGITS;
 use limits::refusals;
 
 // The fields of a frame line, as numbers; all 0 if the line is refused.
-#[derive(Drop)]
+#[derive(Clone, Copy)]
 pub struct Frame {
     pub refusal: u64,
     pub kind: u64,

@@ -14,7 +14,7 @@ use crate::{line, play, put};
 use limits::refusals;
 
 // The length of the line written; refusal 10 if the buffer is too short for the longest one.
-#[derive(Drop)]
+#[derive(Clone, Copy)]
 pub struct Listed {
     pub refusal: u64,
     pub len: usize,

@@ -16,7 +16,7 @@ use room::room::{Asked, Room, RoomConf, RoomKind};
 use room::{capture_calls, pipeline_calls, room as rooms};
 
 // The number of the first refusal; if there is none 0, and the bytes sent.
-#[derive(Drop)]
+#[derive(Clone, Copy)]
 pub struct Outcome {
     pub refusal: u64,
     pub sent: u64,

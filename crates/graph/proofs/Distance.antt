@@ -153,7 +153,7 @@ module _ (g : NetworkGraph) where
 
   -- Each step that changes something reaches one position more, so that after n steps nothing changes.
   grows : (i : ℕ) → i < g.n → (k : ℕ) → (suc k ≤ count_of (reached g i k) g.n) ⊎ (reached g i (suc k) ≡ reached g i k)
-  grows i h zero = inl (some (count_grows 0 (reached g i 0) g.n i h (Rattle.marks.specs.Laws.has-none i) (from_start i 0 h) (λ j l e. no_both (has 0 j) e (Rattle.marks.specs.Laws.has-none j))))
+  grows i h zero = inl (some (count_grows 0 (reached g i 0) g.n i h (Rattle.marks.specs.Laws.has_none i) (from_start i 0 h) (λ j l e. no_both (has 0 j) e (Rattle.marks.specs.Laws.has_none j))))
     where
       some : count_of 0 g.n < count_of (reached g i 0) g.n → 1 ≤ count_of (reached g i 0) g.n
       some q = omega arith

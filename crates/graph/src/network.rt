@@ -15,28 +15,28 @@ use super::sets;
 use limits::refusals;
 
 // n positions; row i holds a mark for each position that hears i.
-#[derive(Drop)]
+#[derive(Clone, Copy)]
 pub struct NetworkGraph {
     pub n: usize,
     pub adj: [u64; 64],
 }
 
 // The answer of a call that makes a graph.
-#[derive(Drop)]
+#[derive(Clone, Copy)]
 pub struct Built {
     pub refusal: u64,
     pub graph: NetworkGraph,
 }
 
 // The row of a position: a mark for each position that hears it.
-#[derive(Drop)]
+#[derive(Clone, Copy)]
 pub struct NeighborRow {
     pub refusal: u64,
     pub marks: u64,
 }
 
 // The neighbours of a position in rising order, with zeros behind the first `count`.
-#[derive(Drop)]
+#[derive(Clone, Copy)]
 pub struct NeighborList {
     pub refusal: u64,
     pub count: usize,
@@ -44,21 +44,21 @@ pub struct NeighborList {
 }
 
 // The answer of a test on two positions.
-#[derive(Drop)]
+#[derive(Clone, Copy)]
 pub struct LinkTest {
     pub refusal: u64,
     pub holds: bool,
 }
 
 // How many links a path has.
-#[derive(Drop)]
+#[derive(Clone, Copy)]
 pub struct PathLength {
     pub refusal: u64,
     pub links: usize,
 }
 
 // The five shapes, each with what its rule needs.
-#[derive(Drop)]
+#[derive(Clone, Copy)]
 pub enum Topology {
     FullMesh,
     Line,
@@ -330,7 +330,7 @@ fn list_marks(m: u64) -> NeighborList
 
 // A wave that goes out from one position, a link a step: where it arrived last, where it has not been, and the last
 // step at which it arrived somewhere.
-#[derive(Drop)]
+#[derive(Clone, Copy)]
 struct Wave {
     front: u64,
     unseen: u64,

@@ -9,7 +9,7 @@ ghost use Rattle.std.specs.Prelude.{◌≤◌};
 use graph::network::{Built, NetworkGraph};
 
 // The numbers of a line, and the number that is being read.
-#[derive(Drop)]
+#[derive(Clone, Copy)]
 struct Line {
     count: usize,
     at: [u64; 80],

@@ -14,7 +14,7 @@ use limits::refusals;
 
 // How far a call came: the present line stands from place `from` up to place `at`, what follows was not read, and the
 // output is taken up to `used`. 10 if what was lent is too short for what was stated.
-#[derive(Drop)]
+#[derive(Clone, Copy)]
 pub struct Fed {
     pub refusal: u64,
     pub from: usize,

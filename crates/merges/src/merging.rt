@@ -16,13 +16,13 @@ use crate::votes::Voting;
 use graph::sets;
 use packets::{Bitmap, CeTwoPcPacket, Data, TwoPcPhase, two_pc_ce};
 
-#[derive(Drop)]
+#[derive(Clone, Copy)]
 pub enum MergeResult {
     Redundant,
     NewInfo,
 }
 
-#[derive(Drop)]
+#[derive(Clone, Copy)]
 pub enum ProposalOutcome {
     Committed,
     Aborted,
@@ -30,7 +30,7 @@ pub enum ProposalOutcome {
 }
 
 // What a payload is: nothing, a text that is no packet, or a packet.
-#[derive(Drop)]
+#[derive(Clone, Copy)]
 pub enum Held {
     Empty,
     Unreadable,
@@ -38,20 +38,20 @@ pub enum Held {
 }
 
 // The packet counts only where `held` says that there is one: an enum may not hold it, since it holds an array.
-#[derive(Drop)]
+#[derive(Clone, Copy)]
 pub struct Payload {
     pub held: Held,
     pub packet: CeTwoPcPacket,
 }
 
-#[derive(Drop)]
+#[derive(Clone, Copy)]
 pub struct Merged {
     pub result: MergeResult,
     pub payload: Payload,
 }
 
 // A packet without its data, which a merge never looks at: `source` says whose data it has.
-#[derive(Drop)]
+#[derive(Clone, Copy)]
 pub struct Slip {
     pub term: u64,
     pub phase: TwoPcPhase,
@@ -60,7 +60,7 @@ pub struct Slip {
 }
 
 // A slip on its way through a merge, and whether anything in it is new.
-#[derive(Drop)]
+#[derive(Clone, Copy)]
 pub struct Draft {
     pub slip: Slip,
     pub news: bool,

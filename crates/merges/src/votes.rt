@@ -5,7 +5,7 @@ ghost use Rattle.loops.specs.Wrap.{mul64};
 
 // What a vote and a merge turn on: the number of positions, how likely a no is, and the seed. A room's settings hold
 // them.
-#[derive(Drop)]
+#[derive(Clone, Copy)]
 pub struct Voting {
     pub n: usize,
     pub abort_probability: f64,

@@ -23,7 +23,7 @@ ghost use Rattle.std.specs.Float.Ieee.{nan_bits};
 use packets_c::{console, desk};
 
 // Where the words of a line start and end, and where the word that is being read starts.
-#[derive(Drop)]
+#[derive(Clone, Copy)]
 struct Line {
     count: usize,
     starts: [usize; 16],

@@ -7,7 +7,7 @@ pub mod two_pc_ce;
 pub mod two_pc_pipeline;
 
 // TwoPcCePhase and TwoPcState in one: both have these variants.
-#[derive(Drop)]
+#[derive(Clone, Copy)]
 pub enum TwoPcPhase {
     Prepare,
     Committed,
@@ -15,20 +15,20 @@ pub enum TwoPcPhase {
 }
 
 // The first len marks of a word: mark i is bit i.
-#[derive(Drop)]
+#[derive(Clone, Copy)]
 pub struct Bitmap {
     pub len: usize,
     pub marks: u64,
 }
 
 // The first len of 32 bytes.
-#[derive(Drop)]
+#[derive(Clone, Copy)]
 pub struct Data {
     pub len: usize,
     pub bytes: [u8; 32],
 }
 
-#[derive(Drop)]
+#[derive(Clone, Copy)]
 pub struct CeTwoPcPacket {
     pub term: u64,
     pub phase: TwoPcPhase,
@@ -36,19 +36,19 @@ pub struct CeTwoPcPacket {
     pub flags_bitmap: Bitmap,
 }
 
-#[derive(Drop)]
+#[derive(Clone, Copy)]
 pub enum PiggybackTx {
     Absent,
     Present(u64),
 }
 
-#[derive(Drop)]
+#[derive(Clone, Copy)]
 pub enum PiggybackState {
     Absent,
     Present(TwoPcPhase),
 }
 
-#[derive(Drop)]
+#[derive(Clone, Copy)]
 pub struct TwoPcPacket {
     pub transaction_id: u64,
     pub state: TwoPcPhase,
@@ -62,20 +62,20 @@ pub struct TwoPcPacket {
 }
 
 // A writer's answer: the refusal, 0 for none, and the index behind the text, 0 if refused.
-#[derive(Drop)]
+#[derive(Clone, Copy)]
 pub struct Wrote {
     pub refusal: u64,
     pub next: usize,
 }
 
 // A reader's answer: the refusal, 0 for none, and the packet, an empty one if refused.
-#[derive(Drop)]
+#[derive(Clone, Copy)]
 pub struct CeRead {
     pub refusal: u64,
     pub packet: CeTwoPcPacket,
 }
 
-#[derive(Drop)]
+#[derive(Clone, Copy)]
 pub struct PipelineRead {
     pub refusal: u64,
     pub packet: TwoPcPacket,

@@ -9,45 +9,45 @@ ghost use Rattle.packets.specs.Reading.{data_of, num_found, bool_found, phase_fo
 
 use crate::{Bitmap, Data, PiggybackState, PiggybackTx, TwoPcPhase};
 
-#[derive(Drop)]
+#[derive(Clone, Copy)]
 pub enum NumRead {
     Got { value: u64, next: usize },
     Bad,
 }
 
-#[derive(Drop)]
+#[derive(Clone, Copy)]
 pub enum BoolRead {
     Got { value: bool, next: usize },
     Bad,
 }
 
-#[derive(Drop)]
+#[derive(Clone, Copy)]
 pub enum PhaseRead {
     Got { phase: TwoPcPhase, next: usize },
     Bad,
 }
 
-#[derive(Drop)]
+#[derive(Clone, Copy)]
 pub enum BitmapRead {
     Got { bitmap: Bitmap, next: usize },
     Bad,
 }
 
 // A struct with a flag, since an enum may not hold an array.
-#[derive(Drop)]
+#[derive(Clone, Copy)]
 pub struct DataRead {
     pub ok: bool,
     pub found: Data,
     pub next: usize,
 }
 
-#[derive(Drop)]
+#[derive(Clone, Copy)]
 pub enum TxRead {
     Got { tx: PiggybackTx, next: usize },
     Bad,
 }
 
-#[derive(Drop)]
+#[derive(Clone, Copy)]
 pub enum StateRead {
     Got { state: PiggybackState, next: usize },
     Bad,

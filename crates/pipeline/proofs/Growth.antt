@@ -80,4 +80,4 @@ abort_kept t abort s = pick_kept (abort && has s.pending t) s _ s (grown_same s.
 
 pub own_kept : (i top : ℕ) (s : NodeTwoPcState) → Kept s (own_vote i top s)
 unfolding own_vote
-own_kept i top s = pick_kept (has s.pending top && mathlib.Core.Bool.not (has s.aborts top)) s _ s (votes_kept top (Rattle.engines.specs.Marked.withMark 0 i) s) (grown_same s.log)
+own_kept i top s = pick_kept (has s.pending top && mathlib.Core.Bool.not (has s.aborts top)) s _ s (votes_kept top (Rattle.engines.specs.Marked.with_mark 0 i) s) (grown_same s.log)

@@ -26,7 +26,7 @@ use limits::refusals;
 use packets::two_pc_pipeline;
 
 // What is fixed when a room is opened: what its rounds go by, the number of transactions, and the slot bound.
-#[derive(Drop)]
+#[derive(Clone, Copy)]
 pub struct PipelineConf {
     pub round: RoundConf,
     pub transactions: usize,
@@ -36,7 +36,7 @@ pub struct PipelineConf {
 // What a pipeline room has of its own: the round number, whether it has stopped, what each position knows, the
 // transactions generated, the outcome to be told besides, the records, and the packets held. A position holds one if
 // its mark is in `holding`.
-#[derive(Drop)]
+#[derive(Clone, Copy)]
 pub struct PipelinePart {
     pub round: u64,
     pub stop: bool,
@@ -49,7 +49,7 @@ pub struct PipelinePart {
 }
 
 // A round run to its end: the room, and the cursor.
-#[derive(Drop)]
+#[derive(Clone, Copy)]
 pub struct RoundRun {
     pub network: Network,
     pub part: PipelinePart,
@@ -57,14 +57,14 @@ pub struct RoundRun {
 }
 
 // .. and how many rows are due.
-#[derive(Drop)]
+#[derive(Clone, Copy)]
 struct RoundSurvey {
     run: RoundRun,
     due: u64,
 }
 
 // The refusal's number (RULES 15; 0: none), the cursor, how many rows are used, and the room; the old ones if refused.
-#[derive(Drop)]
+#[derive(Clone, Copy)]
 pub struct PipelineAnswer {
     pub refusal: u64,
     pub cursor: usize,

@@ -13,7 +13,7 @@ use engines::words::Draw;
 use graph::sets;
 
 // A round whose transaction is chosen: its number, whether it is new, and what that changed.
-#[derive(Drop)]
+#[derive(Clone, Copy)]
 pub struct Begun {
     pub state: NodeTwoPcState,
     pub txs: Txs,
@@ -23,7 +23,7 @@ pub struct Begun {
 }
 
 // What the initiator leaves: its own state, the room's transactions and records, the packet and the cursor.
-#[derive(Drop)]
+#[derive(Clone, Copy)]
 pub struct Prepared {
     pub state: NodeTwoPcState,
     pub txs: Txs,

@@ -10,14 +10,14 @@ use engines::words::Draw;
 use graph::sets;
 
 // The number of positions, the round, and the slot at which outcomes of the present step are recorded.
-#[derive(Drop)]
+#[derive(Clone, Copy)]
 pub struct RoundFacts {
     pub n: usize,
     pub round: u64,
     pub slot: u64,
 }
 
-#[derive(Drop)]
+#[derive(Clone, Copy)]
 pub struct Learnt {
     pub state: NodeTwoPcState,
     pub draw: Draw,
@@ -25,7 +25,7 @@ pub struct Learnt {
 
 // What processing hands from one position to the next: the cursor, the records, the next round's piggyback, and how
 // often it was set.
-#[derive(Drop)]
+#[derive(Clone, Copy)]
 pub struct Carried {
     pub draw: Draw,
     pub records: Records,
@@ -33,13 +33,13 @@ pub struct Carried {
     pub answers: u64,
 }
 
-#[derive(Drop)]
+#[derive(Clone, Copy)]
 pub struct Processed {
     pub state: NodeTwoPcState,
     pub carried: Carried,
 }
 
-#[derive(Drop)]
+#[derive(Clone, Copy)]
 pub struct AllProcessed {
     pub states: [NodeTwoPcState; 64],
     pub carried: Carried,

@@ -4,14 +4,14 @@
 use engines::words::Draw;
 
 // A finished transaction, and whether it was committed.
-#[derive(Drop)]
+#[derive(Clone, Copy)]
 pub struct LogEntry {
     pub tx: u8,
     pub committed: bool,
 }
 
 // The first len entries, in the order in which they were entered.
-#[derive(Drop)]
+#[derive(Clone, Copy)]
 pub struct TxLog {
     pub len: usize,
     pub entries: [LogEntry; 64],
@@ -20,7 +20,7 @@ pub struct TxLog {
 // PendingTx by fields: a mark for each pending transaction and for each that has an abort, and the yes votes of each,
 // a mark for each position. The list of the Rust is always in rising order, since each transaction's data is on air
 // in one round only.
-#[derive(Drop)]
+#[derive(Clone, Copy)]
 pub struct NodeTwoPcState {
     pub log: TxLog,
     pub pending: u64,
@@ -29,7 +29,7 @@ pub struct NodeTwoPcState {
 }
 
 // The votes on a transaction once a position has added its own.
-#[derive(Drop)]
+#[derive(Clone, Copy)]
 pub struct Vote {
     pub bits: u64,
     pub abort: bool,
@@ -37,7 +37,7 @@ pub struct Vote {
 }
 
 // An outcome that a packet tells besides: the transaction, and whether it was committed.
-#[derive(Drop)]
+#[derive(Clone, Copy)]
 pub enum Piggyback {
     Absent,
     Present(usize, bool),
@@ -45,7 +45,7 @@ pub enum Piggyback {
 
 // What a round's packet says. The rest of a TwoPcPacket follows: the phase is Prepare, the bitmap has an entry for
 // each position, and the data is that of the transaction if it is new.
-#[derive(Drop)]
+#[derive(Clone, Copy)]
 pub struct RoundPacket {
     pub tx: usize,
     pub bits: u64,
@@ -58,14 +58,14 @@ pub struct RoundPacket {
 
 // The room's records: the outcomes in the order in which they were recorded, and the slot at which each transaction's
 // was.
-#[derive(Drop)]
+#[derive(Clone, Copy)]
 pub struct Records {
     pub log: TxLog,
     pub ends: [u64; 64],
 }
 
 // How many transactions were generated, and for each the slot and the round in which it was.
-#[derive(Drop)]
+#[derive(Clone, Copy)]
 pub struct Txs {
     pub counter: usize,
     pub starts: [u64; 64],

@@ -7,7 +7,7 @@ use pipeline::pipeline as pipes;
 use pipeline::pipeline::{PipelineAnswer, PipelineConf, PipelinePart};
 
 // The last round's refusal (0: none), the cursor, the rows used, how many rounds were accepted, and the room.
-#[derive(Drop)]
+#[derive(Clone, Copy)]
 pub struct Played {
     pub refusal: u64,
     pub cursor: usize,

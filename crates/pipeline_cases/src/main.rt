@@ -20,7 +20,7 @@ use pipeline_c::rounds;
 use pipeline_c::rounds::Played;
 
 // The numbers of a line, and the number that is being read.
-#[derive(Drop)]
+#[derive(Clone, Copy)]
 struct Line {
     count: usize,
     at: [u64; 32],
@@ -242,7 +242,7 @@ fn of_rows(d: u64, rows: &[u64], from: usize, to: usize) -> u64 {
 
 // ---- sums and logs
 
-#[derive(Drop)]
+#[derive(Clone, Copy)]
 struct Sums {
     listen: u64,
     flood: u64,

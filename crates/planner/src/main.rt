@@ -14,14 +14,14 @@ const INPUT: usize = 73728;
 const OUTPUT: usize = 8192;
 
 // Where the present line begins, and whether the answers before it could not be written.
-#[derive(Drop)]
+#[derive(Clone, Copy)]
 struct Answered {
     from: usize,
     failed: bool,
 }
 
 // How many bytes of the present line there are, and whether nothing more is read.
-#[derive(Drop)]
+#[derive(Clone, Copy)]
 struct Turn {
     n: usize,
     over: bool,

@@ -22,28 +22,28 @@ use pipeline::two_pc_pipeline::{LogEntry, NodeTwoPcState, RoundPacket, TxLog};
 use room::room::{Room, RoomKind};
 
 // A number, or the refusal beside which it is 0.
-#[derive(Drop)]
+#[derive(Clone, Copy)]
 pub struct NumberReading {
     pub refusal: u64,
     pub value: u64,
 }
 
 // A position as it is; a fresh one beside a refusal.
-#[derive(Drop)]
+#[derive(Clone, Copy)]
 pub struct NodeReading {
     pub refusal: u64,
     pub node: Node,
 }
 
 // How long the text is that was written to the start of the buffer; 0 beside a refusal, and where nothing is held.
-#[derive(Drop)]
+#[derive(Clone, Copy)]
 pub struct TextReading {
     pub refusal: u64,
     pub len: usize,
 }
 
 // An entry of a log, if there is one at that place.
-#[derive(Drop)]
+#[derive(Clone, Copy)]
 pub struct EntryReading {
     pub refusal: u64,
     pub there: bool,
@@ -54,7 +54,7 @@ pub struct EntryReading {
 // What is held of a transaction for a position: whether it is pending, whether an abort is known of it, who has said
 // yes, the round of its start, and its data if it is pending. If it is not, the round is the room's all the same, and
 // abort and votes are as they were last.
-#[derive(Drop)]
+#[derive(Clone, Copy)]
 pub struct PendingReading {
     pub refusal: u64,
     pub pending: bool,
@@ -65,7 +65,7 @@ pub struct PendingReading {
 }
 
 // The record at a place: the transaction, its outcome, and the slots at which it was generated and recorded.
-#[derive(Drop)]
+#[derive(Clone, Copy)]
 pub struct RecordReading {
     pub refusal: u64,
     pub there: bool,
@@ -75,7 +75,7 @@ pub struct RecordReading {
     pub end: u64,
 }
 
-#[derive(Drop)]
+#[derive(Clone, Copy)]
 pub struct OutcomeReading {
     pub refusal: u64,
     pub outcome: ProposalOutcome,

@@ -18,7 +18,7 @@ use packets::{Bitmap, CeTwoPcPacket, Data, TwoPcPhase};
 
 // What a capture room has of its own: the present term, who proposed in it, whether anybody has, whether the progress
 // was raised for it, and what each position holds.
-#[derive(Drop)]
+#[derive(Clone, Copy)]
 pub struct CapturePart {
     pub term: u64,
     pub initiator: usize,
@@ -28,14 +28,14 @@ pub struct CapturePart {
 }
 
 // A proposal's refusal, 0 for none, and the part after it; the old one if refused.
-#[derive(Drop)]
+#[derive(Clone, Copy)]
 pub struct Proposed {
     pub refusal: u64,
     pub part: CapturePart,
 }
 
 // The same of a round, with the network, the cursor and how many rows are used.
-#[derive(Drop)]
+#[derive(Clone, Copy)]
 pub struct Captured {
     pub refusal: u64,
     pub cursor: usize,

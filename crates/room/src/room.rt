@@ -17,7 +17,7 @@ use graph::network::NetworkGraph;
 use limits::refusals;
 use pipeline::pipeline::PipelinePart;
 
-#[derive(Drop)]
+#[derive(Clone, Copy)]
 pub enum RoomKind {
     Pipeline,
     Capture,
@@ -25,7 +25,7 @@ pub enum RoomKind {
 
 // What is fixed at the opening: the kind, what a round goes by, and of a pipeline room the number of transactions and
 // the slot bound.
-#[derive(Drop)]
+#[derive(Clone, Copy)]
 pub struct RoomConf {
     pub kind: RoomKind,
     pub round: RoundConf,
@@ -34,7 +34,7 @@ pub struct RoomConf {
 }
 
 // The part of the other kind stays as it was opened.
-#[derive(Drop)]
+#[derive(Clone, Copy)]
 pub struct Room {
     pub conf: RoomConf,
     pub network: Network,
@@ -43,7 +43,7 @@ pub struct Room {
 }
 
 // What an opening is asked for.
-#[derive(Drop)]
+#[derive(Clone, Copy)]
 pub struct Asked {
     pub kind: RoomKind,
     pub graph: NetworkGraph,
@@ -56,21 +56,21 @@ pub struct Asked {
 
 // The room opened; if refused, one of no positions: a proposal, a round, the initiator, the outcome and what is read
 // of a position are 2 there, and the other readings show a room as opened.
-#[derive(Drop)]
+#[derive(Clone, Copy)]
 pub struct Opening {
     pub refusal: u64,
     pub room: Room,
 }
 
 // The room after a proposal; the old one if refused.
-#[derive(Drop)]
+#[derive(Clone, Copy)]
 pub struct Proposal {
     pub refusal: u64,
     pub room: Room,
 }
 
 // The room after a round, the cursor and how many rows are used; the old ones if refused.
-#[derive(Drop)]
+#[derive(Clone, Copy)]
 pub struct RoundAnswer {
     pub refusal: u64,
     pub cursor: usize,
@@ -79,7 +79,7 @@ pub struct RoundAnswer {
 }
 
 // What a room never exceeds.
-#[derive(Drop)]
+#[derive(Clone, Copy)]
 pub struct Limits {
     pub positions: usize,
     pub transactions: usize,

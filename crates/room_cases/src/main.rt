@@ -16,7 +16,7 @@ use graph::network::NetworkGraph;
 use room_c::console;
 
 // The numbers of a line, and the number that is being read.
-#[derive(Drop)]
+#[derive(Clone, Copy)]
 struct Line {
     count: usize,
     at: [u64; 256],
