@@ -113,8 +113,8 @@ record Written (s : List ℕ) (x : TextReading) (out : List ℕ) : Type 0 where
 within : (p : TwoPcPacket) → ValidPipeline p → pipeline_within p ≡ true
 unfolding limits
 within p v =
-    true_and _ _ (le-leb p.flags_bitmap.len 64 v.bitmap.atMost64)
-    (le-leb p.transaction_data.len 32 v.bytes.atMost32)
+    true_and _ _ (le-leb p.flags_bitmap.len 64 v.bitmap.at_most64)
+    (le-leb p.transaction_data.len 32 v.bytes.at_most32)
 
 written_by : (n : ℕ) (b : Bool) (q : RoundPacket) (out : List ℕ) → ValidPipeline (packet_of n q) → 758 ≤ length out
     → Written (either b (pipeline_text (packet_of n q)) []) (pipe_answer_of n b q out) (pipe_left n b q out)
@@ -132,7 +132,7 @@ there n v h l = rw (lt-ltb 0 n (omega arith), le-leb n 64 l, lt-ltb v n h)
 module _ (r : Room) (held : HeldValid r) where
   size : size_of r ≤ 64
   unfolding packet_of
-  size = (held 0).bitmap.atMost64
+  size = (held 0).bitmap.at_most64
 
   written_in : (v : ℕ) (out : List ℕ) (x : RoomKind) → x ≡ kinds.Pipeline → 758 ≤ length out
       → Written (bytes_at r v) (text_by r v out x) (left_by r v out x)

@@ -124,11 +124,11 @@ module _ {a b : Room} (i : Inv a) (j : Inv b) (l : Le a b) where
             apart nay (size_of b) t (claimed b u t Committed j (present u t Committed x)) (claimed b v t Aborted j (present v t Aborted y));
         committed = λ v t x. claimed b v t Committed j (present v t Committed x);
         aborted = λ v t x. claimed b v t Aborted j (present v t Aborted x);
-        commitFirm = λ v t f x y.
+        commit_firm = λ v t f x y.
             commit_rank f (up v t Committed f (before v t Committed x) (present v t f y))
             (λ e. apart nay (size_of b) t (yes_later t (claimed a v t Committed i (before v t Committed x)))
             (claimed b v t Aborted j (subst (HoldsValue b v t) e (present v t f y))));
-        abortFirm = λ v t f x y. abort_rank f (up v t Aborted f (before v t Aborted x) (present v t f y));
+        abort_firm = λ v t f x y. abort_rank f (up v t Aborted f (before v t Aborted x) (present v t f y));
       }
 
 -- the same of the room as it was opened, since nothing fixed has changed
@@ -142,8 +142,8 @@ renamed {a} {b} {o} {e} p q h =
       agreed = h.agreed;
       committed = λ v t x. subst (λ (d : RoomConf). AllYes (noes_of d) (positions_of d) t) p (h.committed v t x);
       aborted = λ v t x. subst (λ (d : RoomConf). SomeNo (noes_of d) (positions_of d) t) p (h.aborted v t x);
-      commitFirm = h.commitFirm;
-      abortFirm = h.abortFirm;
+      commit_firm = h.commit_firm;
+      abort_firm = h.abort_firm;
     }
 
 pub demand3 : Demand3

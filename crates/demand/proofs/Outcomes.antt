@@ -144,12 +144,12 @@ module _ {a b : Room} (i : Inv a) (j : Inv b) (l : Le a b) where
             let yes : AllYes (noes_of a.conf) (size_of a) t = claimed a v t phases.Committed i (value_held a i v t phases.Committed x) in
             let no : SomeNo (noes_of b.conf) (size_of b) t = claimed b u.0 t phases.Aborted j u.1 in
             apart (noes_of b.conf) (size_of b) t (subst (λ (c : RoomConf). AllYes (noes_of c) (positions_of c) t) (sym l.fixed) yes) no;
-        commitStays = λ t f x y.
+        commit_stays = λ t f x y.
             committed b j t f
-            (λ v k. still v t phases.Committed y.term (all_hold a i v t x (omega (arith, size))) (λ g. h.commitFirm v t g)) y;
-        abortStays = λ t f x y.
+            (λ v k. still v t phases.Committed y.term (all_hold a i v t x (omega (arith, size))) (λ g. h.commit_firm v t g)) y;
+        abort_stays = λ t f x y.
             let u = one_holds a i t x in
-            aborted b j u.0 t f (still u.0 t phases.Aborted y.term u.1 (λ g. h.abortFirm u.0 t g)) y;
+            aborted b j u.0 t f (still u.0 t phases.Aborted y.term u.1 (λ g. h.abort_firm u.0 t g)) y;
       }
 
 -- ---- lists of calls

@@ -37,7 +37,7 @@ record Written (s : List ℕ) (x : TextReading) (out : List ℕ) : Type 0 where
 
 within : (p : CeTwoPcPacket) → ValidCe p → ce_within p ≡ true
 unfolding limits
-within p v = ap₂ (λ (x y : Bool). x && y) (le-leb p.flags_bitmap.len 64 v.bitmap.atMost64) (le-leb p.proposal_data.len 32 v.bytes.atMost32)
+within p v = ap₂ (λ (x y : Bool). x && y) (le-leb p.flags_bitmap.len 64 v.bitmap.at_most64) (le-leb p.proposal_data.len 32 v.bytes.at_most32)
 
 written_by : (p : CeTwoPcPacket) (h : Held) (out : List ℕ) → (h ≡ Packet → ValidCe p) → 596 ≤ length out → Written (text_in p h) (ce_answer_by p out h) (ce_left_by p out h)
 unfolding ce_answer_by ce_left_by wrote_of left_of written

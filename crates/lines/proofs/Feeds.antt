@@ -184,8 +184,8 @@ module _ (text : List ℕ) (n : ℕ) (words₀ out₀ : List ℕ) (used : ℕ) w
         record {
           answer = a ∙ rw (y, ← fr, ← at, ← us);
           room = omega (arith, g.place, ap (λ (x : Fed). x.used) a);
-          wordsLeft = rw y (ap (λ (x : End). x.words) s);
-          outLeft = rw y (ap (λ (x : End). x.out) s);
+          words_left = rw y (ap (λ (x : End). x.words) s);
+          out_left = rw y (ap (λ (x : End). x.out) s);
         }
 
   -- ---- the loop's turns and ends, as the code has them
@@ -228,6 +228,6 @@ fed_refused text n words out used h a =
     record {
       answer = a ∙ rw z;
       room = omega (arith, ap (λ (x : Fed). x.used) a);
-      wordsLeft = rw z;
-      outLeft = rw z;
+      words_left = rw z;
+      out_left = rw z;
     }

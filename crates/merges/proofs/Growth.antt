@@ -6,27 +6,27 @@ use Rattle.loops.specs.Wrap.{add64}
 use Rattle.merges.specs.Merging.{
   Draft,
   Noes,
-  unanimousOf,
+  unanimous_of,
   rank_of,
-  ensureOf,
-  decidedOf,
-  acknowledgedOf,
-  voicedOf,
+  ensure_of,
+  decided_of,
+  acknowledged_of,
+  voiced_of,
   settled_of,
   settled,
-  adoptedOf,
-  raisedOf,
+  adopted_of,
+  raised_of,
   own_of,
-  sameTermOf,
+  same_term_of,
   redundant,
   outdated,
-  newInfo,
+  new_info,
   concluded,
-  heardOf,
-  mergedBy,
-  mergeOf,
+  heard_of,
+  merged_by,
+  merge_of,
   blank,
-  proposalOf,
+  proposal_of,
 }
 use Rattle.merges.specs.Sound.{Grew, Grown, MergesGrow, MergesKeepTerm, EmptyAdopts, NothingHeard, RedundantKeeps, ProposalTerm}
 use Rattle.packets.specs.declared.TwoPcPhase.{TwoPcPhase}
@@ -58,36 +58,36 @@ unfolding rank_of
 prepare_least p q e = rw e zero-le
 
 module _ (nay : Noes) (n v : ℕ) where
-  pub voiced_rose : (p : CeTwoPcPacket) (f : TwoPcPhase) → p.phase ≡ f → Rose p (voicedOf nay n v p f)
-  unfolding voicedOf decidedOf acknowledgedOf
+  pub voiced_rose : (p : CeTwoPcPacket) (f : TwoPcPhase) → p.phase ≡ f → Rose p (voiced_of nay n v p f)
+  unfolding voiced_of decided_of acknowledged_of
   voiced_rose p Prepare e =
       either_cases (Rose p) (nay p.term v)
-      (λ x. record { term = refl; phase = prepare_least p (decidedOf Aborted n v p) e })
+      (λ x. record { term = refl; phase = prepare_least p (decided_of Aborted n v p) e })
       (λ x. record { term = refl; phase = omega arith })
   voiced_rose p Committed e = record { term = refl; phase = omega arith }
   voiced_rose p Aborted e = record { term = refl; phase = omega arith }
 
   pub settled_rose : (d : Draft) (f : TwoPcPhase) → d.packet.phase ≡ f → Rose d.packet (settled_of n v d f).packet
-  unfolding settled_of decidedOf
+  unfolding settled_of decided_of
   settled_rose d Prepare e =
-      either_cases (λ (c : Draft). Rose d.packet c.packet) (unanimousOf n d.packet.flags_bitmap)
-      (λ x. record { term = refl; phase = prepare_least d.packet (decidedOf Committed n v d.packet) e })
+      either_cases (λ (c : Draft). Rose d.packet c.packet) (unanimous_of n d.packet.flags_bitmap)
+      (λ x. record { term = refl; phase = prepare_least d.packet (decided_of Committed n v d.packet) e })
       (λ x. rose_refl d.packet)
   settled_rose d Committed e = rose_refl d.packet
   settled_rose d Aborted e = rose_refl d.packet
 
-  pub ensure_rose : (p : CeTwoPcPacket) → Rose p (ensureOf n p)
-  unfolding ensureOf
+  pub ensure_rose : (p : CeTwoPcPacket) → Rose p (ensure_of n p)
+  unfolding ensure_of
   ensure_rose p = record { term = refl; phase = omega arith }
 
-  pub adopted_rose : (p : CeTwoPcPacket) → Rose p (adoptedOf nay n v p)
-  unfolding adoptedOf
+  pub adopted_rose : (p : CeTwoPcPacket) → Rose p (adopted_of nay n v p)
+  unfolding adopted_of
   adopted_rose p =
-      let d : Draft = record { packet = voicedOf nay n v (ensureOf n p) (ensureOf n p).phase; news = true } in
-      rose_trans (ensure_rose p) (rose_trans (voiced_rose (ensureOf n p) (ensureOf n p).phase refl) (settled_rose d d.packet.phase refl))
+      let d : Draft = record { packet = voiced_of nay n v (ensure_of n p) (ensure_of n p).phase; news = true } in
+      rose_trans (ensure_rose p) (rose_trans (voiced_rose (ensure_of n p) (ensure_of n p).phase refl) (settled_rose d d.packet.phase refl))
 
-  pub raised_rose : (l r : CeTwoPcPacket) → Rose l (raisedOf n l r).packet
-  unfolding raisedOf
+  pub raised_rose : (l r : CeTwoPcPacket) → Rose l (raised_of n l r).packet
+  unfolding raised_of
   raised_rose l r =
       either_cases (λ (d : Draft). Rose l d.packet) (ltb (rank_of l.phase) (rank_of r.phase))
       (λ x. record { term = refl; phase = omega (arith, ltb-true (rank_of l.phase) (rank_of r.phase) x) })
@@ -104,15 +104,15 @@ module _ (nay : Noes) (n v : ℕ) where
       (λ y. voiced_rose d.packet d.packet.phase refl))
       (λ x. rose_refl d.packet)
 
-  same_rose : (l r : CeTwoPcPacket) → Rose l (sameTermOf nay n v l r).packet
-  unfolding sameTermOf
+  same_rose : (l r : CeTwoPcPacket) → Rose l (same_term_of nay n v l r).packet
+  unfolding same_term_of
   same_rose l r =
-      let m = raisedOf n (ensureOf n l) (ensureOf n r) in
+      let m = raised_of n (ensure_of n l) (ensure_of n r) in
       let d = own_of nay n v m in
-      rose_trans (ensure_rose l) (rose_trans (raised_rose (ensureOf n l) (ensureOf n r)) (rose_trans (own_rose m) (settled_rose d d.packet.phase refl)))
+      rose_trans (ensure_rose l) (rose_trans (raised_rose (ensure_of n l) (ensure_of n r)) (rose_trans (own_rose m) (settled_rose d d.packet.phase refl)))
 
-  heard_grown : (l : Payload) (p : CeTwoPcPacket) (h : Held) → h ≡ Packet → l.held ≡ Packet → Grown l (heardOf nay n v l p h).payload
-  unfolding heardOf
+  heard_grown : (l : Payload) (p : CeTwoPcPacket) (h : Held) → h ≡ Packet → l.held ≡ Packet → Grown l (heard_of nay n v l p h).payload
+  unfolding heard_of
   heard_grown l p Empty e k = absurd (let z : ◌≡◌ {A = ℕ} 0 1 = cc in omega arith)
   heard_grown l p Unreadable e k = absurd (let z : ◌≡◌ {A = ℕ} 0 1 = cc in omega arith)
   heard_grown l p Packet e k =
@@ -120,48 +120,48 @@ module _ (nay : Noes) (n v : ℕ) where
       either_cases (λ (m : Merged). Grown l m.payload) (ltb l.packet.term p.term)
       (λ x. record {
         held = refl;
-        packet = higher l.packet (adoptedOf nay n v p) (omega (arith, ltb-true l.packet.term p.term x, (adopted_rose p).term));
+        packet = higher l.packet (adopted_of nay n v p) (omega (arith, ltb-true l.packet.term p.term x, (adopted_rose p).term));
       })
       (λ x. either_cases (λ (m : Merged). Grown l m.payload) (outdated p.term l.packet.term)
       (λ y. same)
-      (λ y. either_cases (λ (m : Merged). Grown l m.payload) (sameTermOf nay n v l.packet p).news
+      (λ y. either_cases (λ (m : Merged). Grown l m.payload) (same_term_of nay n v l.packet p).news
       (λ z. record { held = refl; packet = rose_grew (same_rose l.packet p) })
       (λ z. same)))
     where
       higher : (a b : CeTwoPcPacket) → a.term < b.term → Grew a b
       higher a b h = record { term = omega arith; phase = λ q. absurd (omega arith) }
 
-  merged_grown : (l : Payload) (p : CeTwoPcPacket) (h : Held) → l.held ≡ Packet → Grown l (mergedBy nay n v l p h).payload
-  unfolding mergedBy
+  merged_grown : (l : Payload) (p : CeTwoPcPacket) (h : Held) → l.held ≡ Packet → Grown l (merged_by nay n v l p h).payload
+  unfolding merged_by
   merged_grown l p Empty k = record { held = k; packet = rose_grew (rose_refl l.packet) }
   merged_grown l p Unreadable k = record { held = k; packet = rose_grew (rose_refl l.packet) }
   merged_grown l p Packet k = heard_grown l p l.held k k
 
 pub merges_grow : MergesGrow
-unfolding mergeOf
+unfolding merge_of
 merges_grow nay n v l r k = merged_grown nay n v l r.packet r.held k
 
 pub merges_keep_term : MergesKeepTerm
-unfolding mergeOf mergedBy heardOf
+unfolding merge_of merged_by heard_of
 merges_keep_term nay n v l r k h e =
     rw (h, k)
     (either_cases (λ (m : Merged). m.payload.packet.term ≡ l.packet.term) (ltb l.packet.term r.packet.term)
     (λ x. absurd (omega (arith, ltb-true l.packet.term r.packet.term x)))
     (λ x. either_cases (λ (m : Merged). m.payload.packet.term ≡ l.packet.term) (outdated r.packet.term l.packet.term)
     (λ y. refl)
-    (λ y. either_cases (λ (m : Merged). m.payload.packet.term ≡ l.packet.term) (sameTermOf nay n v l.packet r.packet).news
+    (λ y. either_cases (λ (m : Merged). m.payload.packet.term ≡ l.packet.term) (same_term_of nay n v l.packet r.packet).news
     (λ z. (same_rose nay n v l.packet r.packet).term)
     (λ z. refl))))
 
 pub empty_adopts : EmptyAdopts
-unfolding mergeOf mergedBy heardOf
+unfolding merge_of merged_by heard_of
 empty_adopts nay n v l r k h = (rw (h, k), (adopted_rose nay n v r.packet).term)
 
 pub nothing_heard : NothingHeard
-unfolding mergeOf mergedBy
+unfolding merge_of merged_by
 nothing_heard nay n v l r h = go r.held h
   where
-    go : (k : Held) → (k ≡ Packet → ⊥) → (mergedBy nay n v l r.packet k).payload ≡ l
+    go : (k : Held) → (k ≡ Packet → ⊥) → (merged_by nay n v l r.packet k).payload ≡ l
     go Empty q = refl
     go Unreadable q = refl
     go Packet q = absurd (q refl)
@@ -173,8 +173,8 @@ told_apart e = absurd (let z : ◌≡◌ {A = ℕ} 0 1 = cc in omega arith)
 abbrev Keeps : Payload → Merged → Type 0
 Keeps l m = m.result ≡ Redundant → m.payload ≡ l
 
-heard_keeps : (nay : Noes) (n v : ℕ) (l : Payload) (p : CeTwoPcPacket) (h : Held) → Keeps l (heardOf nay n v l p h)
-unfolding heardOf
+heard_keeps : (nay : Noes) (n v : ℕ) (l : Payload) (p : CeTwoPcPacket) (h : Held) → Keeps l (heard_of nay n v l p h)
+unfolding heard_of
 heard_keeps nay n v l p Empty = λ e. told_apart (sym e)
 heard_keeps nay n v l p Unreadable = λ e. refl
 heard_keeps nay n v l p Packet =
@@ -182,17 +182,17 @@ heard_keeps nay n v l p Packet =
     (λ x e. told_apart (sym e))
     (λ x. either_cases (Keeps l) (outdated p.term l.packet.term)
     (λ y e. refl)
-    (λ y. either_cases (Keeps l) (sameTermOf nay n v l.packet p).news (λ z e. told_apart (sym e)) (λ z e. refl)))
+    (λ y. either_cases (Keeps l) (same_term_of nay n v l.packet p).news (λ z e. told_apart (sym e)) (λ z e. refl)))
 
 pub redundant_keeps : RedundantKeeps
-unfolding mergeOf mergedBy
+unfolding merge_of merged_by
 redundant_keeps nay n v l r = go r.held
   where
-    go : (k : Held) → Keeps l (mergedBy nay n v l r.packet k)
+    go : (k : Held) → Keeps l (merged_by nay n v l r.packet k)
     go Empty e = refl
     go Unreadable e = refl
     go Packet e = heard_keeps nay n v l r.packet l.held e
 
 pub proposal_term : ProposalTerm
-unfolding proposalOf
+unfolding proposal_of
 proposal_term nay n v t = (adopted_rose nay n v (blank n (add64 t 1))).term

@@ -27,12 +27,12 @@ word_lt len f h =
     inside j true e = ap (λ (t : Bool). t && f j) (lt-ltb j 64 (omega (arith, ltb-true j len e)))
     inside j false e = and_false (ltb j 64)
 
-module _ (n : ℕ) (atMost64 : n ≤ 64) where
+module _ (n : ℕ) (at_most64 : n ≤ 64) where
   filled_valid : (b : Bitmap) → ValidBitmap b → ValidBitmap (filled_of n b)
   unfolding filled_of
   filled_valid b s = record {
-    atMost64 = omega (arith, s.atMost64);
-    marks_lt = lt_of_lt_of_le (word_lt b.len (λ j. has b.marks j) s.atMost64) (pow_mono (larger b.len n));
+    at_most64 = omega (arith, s.at_most64);
+    marks_lt = lt_of_lt_of_le (word_lt b.len (λ j. has b.marks j) s.at_most64) (pow_mono (larger b.len n));
   }
     where
       larger : (a c : ℕ) → a ≤ max a c
@@ -40,15 +40,15 @@ module _ (n : ℕ) (atMost64 : n ≤ 64) where
 
   marked_valid : (v : ℕ) (b : Bitmap) → ValidBitmap b → ValidBitmap (marked_of v b)
   unfolding marked_of
-  marked_valid v b s = record { atMost64 = s.atMost64; marks_lt = word_lt b.len (λ j. has b.marks j || eqb j v) s.atMost64 }
+  marked_valid v b s = record { at_most64 = s.at_most64; marks_lt = word_lt b.len (λ j. has b.marks j || eqb j v) s.at_most64 }
 
   only_valid : (v : ℕ) → ValidBitmap (only_of n v)
   unfolding only_of
-  only_valid v = record { atMost64 = atMost64; marks_lt = word_lt n (λ j. eqb j v) atMost64 }
+  only_valid v = record { at_most64 = at_most64; marks_lt = word_lt n (λ j. eqb j v) at_most64 }
 
   join_valid : (a b : Bitmap) → ValidBitmap a → ValidBitmap (join_of n a b)
   unfolding join_of
-  join_valid a b s = record { atMost64 = s.atMost64; marks_lt = word_lt a.len (λ j. has a.marks j || (ltb j n && entry b j)) s.atMost64 }
+  join_valid a b s = record { at_most64 = s.at_most64; marks_lt = word_lt a.len (λ j. has a.marks j || (ltb j n && entry b j)) s.at_most64 }
 
   state_valid : (f : TwoPcPhase) (b : Bitmap) (p : CeTwoPcPacket) → ValidCe p → ValidBitmap b → ValidCe (with_state f b p)
   state_valid f b p s h = record { term_fits = s.term_fits; bytes = s.bytes; bitmap = h }
@@ -101,13 +101,13 @@ data_valid : (t : ℕ) → t < 2 ^ 64 → ValidData (proposal_data t)
 unfolding proposal_data
 data_valid t h =
     record {
-      atMost32 = omega (arith, decimal_word t h);
+      at_most32 = omega (arith, decimal_word t h);
       small = rw (text_back t) (more {x = 116} (omega arith) (more {x = 120} (omega arith) (digits_small t)));
       zeros = ap (written (replicate 32 0) 0) (sym (text_back t));
     }
 
 blank_valid : (n t : ℕ) → n ≤ 64 → t < 2 ^ 64 → ValidCe (blank n t)
-blank_valid n t h k = record { term_fits = k; bytes = data_valid t k; bitmap = record { atMost64 = h; marks_lt = pow_pos n } }
+blank_valid n t h k = record { term_fits = k; bytes = data_valid t k; bitmap = record { at_most64 = h; marks_lt = pow_pos n } }
 
 pub proposes_valid : ProposesValid
 unfolding proposal_of

@@ -7,24 +7,24 @@ use Rattle.merges.specs.Merging.{
   Draft,
   Noes,
   entry,
-  filledOf,
-  markedOf,
+  filled_of,
+  marked_of,
   join_of,
-  unanimousOf,
+  unanimous_of,
   rank_of,
-  ensureOf,
-  decidedOf,
-  acknowledgedOf,
-  voicedOf,
+  ensure_of,
+  decided_of,
+  acknowledged_of,
+  voiced_of,
   settled_of,
-  adoptedOf,
-  raisedOf,
+  adopted_of,
+  raised_of,
   own_of,
-  sameTermOf,
+  same_term_of,
   outdated,
-  heardOf,
-  mergedBy,
-  mergeOf,
+  heard_of,
+  merged_by,
+  merge_of,
 }
 use Rattle.merges.specs.Sound.{MarksStay}
 use Rattle.packets.specs.declared.TwoPcPhase.{TwoPcPhase}
@@ -50,15 +50,15 @@ module _ (b : Bitmap) (i : ℕ) (h : i < 64) (e : entry b i ≡ true) where
   marked_here : has b.marks i ≡ true
   marked_here = (and_true (ltb i b.len) (has b.marks i) e).1
 
-  filled_stays : (n : ℕ) → entry (filledOf n b) i ≡ true
-  unfolding filledOf
+  filled_stays : (n : ℕ) → entry (filled_of n b) i ≡ true
+  unfolding filled_of
   filled_stays n = let k = below in in_test (max b.len n) (λ j. ltb j b.len && has b.marks j) i h (omega arith) e
 
   or_stays : (y : Bool) → (has b.marks i || y) ≡ true
   or_stays y = ap (λ (x : Bool). x || y) marked_here
 
-  marked_stays : (v : ℕ) → entry (markedOf v b) i ≡ true
-  unfolding markedOf
+  marked_stays : (v : ℕ) → entry (marked_of v b) i ≡ true
+  unfolding marked_of
   marked_stays v =
       in_test b.len (λ j. ltb j b.len && (has b.marks j || eqb j v)) i h below
       (true_and (ltb i b.len) (has b.marks i || eqb i v) (lt-ltb i b.len below) (or_stays (eqb i v)))
@@ -92,16 +92,16 @@ stays_trans p q r a b s t e i h m =
     t (e ∙ sym g) i h (s g i h m)
 
 module _ (nay : Noes) (n v : ℕ) where
-  ensure_stays : (p : CeTwoPcPacket) → Stays p (ensureOf n p)
-  unfolding ensureOf
+  ensure_stays : (p : CeTwoPcPacket) → Stays p (ensure_of n p)
+  unfolding ensure_of
   ensure_stays p = λ e i h m. filled_stays p.flags_bitmap i h m n
 
-  acknowledged_stays : (p : CeTwoPcPacket) → Stays p (acknowledgedOf v p)
-  unfolding acknowledgedOf
+  acknowledged_stays : (p : CeTwoPcPacket) → Stays p (acknowledged_of v p)
+  unfolding acknowledged_of
   acknowledged_stays p = λ e i h m. marked_stays p.flags_bitmap i h m v
 
-  voiced_stays : (p : CeTwoPcPacket) (f : TwoPcPhase) → p.phase ≡ f → Stays p (voicedOf nay n v p f)
-  unfolding voicedOf decidedOf
+  voiced_stays : (p : CeTwoPcPacket) (f : TwoPcPhase) → p.phase ≡ f → Stays p (voiced_of nay n v p f)
+  unfolding voiced_of decided_of
   voiced_stays p Prepare k =
       either_cases (Stays p) (nay p.term v)
       (λ x e. let q : Aborted ≡ Prepare = e ∙ k in absurd (let z : ◌≡◌ {A = ℕ} 0 1 = cc in omega arith))
@@ -110,16 +110,16 @@ module _ (nay : Noes) (n v : ℕ) where
   voiced_stays p Aborted k = acknowledged_stays p
 
   settled_stays : (d : Draft) (f : TwoPcPhase) → d.packet.phase ≡ f → Stays d.packet (settled_of n v d f).packet
-  unfolding settled_of decidedOf
+  unfolding settled_of decided_of
   settled_stays d Prepare k =
-      either_cases (λ (c : Draft). Stays d.packet c.packet) (unanimousOf n d.packet.flags_bitmap)
+      either_cases (λ (c : Draft). Stays d.packet c.packet) (unanimous_of n d.packet.flags_bitmap)
       (λ x e. let q : Committed ≡ Prepare = e ∙ k in absurd (let z : ◌≡◌ {A = ℕ} 0 1 = cc in omega arith))
       (λ x e i h m. m)
   settled_stays d Committed k = λ e i h m. m
   settled_stays d Aborted k = λ e i h m. m
 
-  raised_stays : (l r : CeTwoPcPacket) → Stays l (raisedOf n l r).packet
-  unfolding raisedOf
+  raised_stays : (l r : CeTwoPcPacket) → Stays l (raised_of n l r).packet
+  unfolding raised_of
   raised_stays l r =
       either_cases (λ (d : Draft). Stays l d.packet) (ltb (rank_of l.phase) (rank_of r.phase))
       (λ x e. absurd (omega (arith, ltb-true (rank_of l.phase) (rank_of r.phase) x, ap rank_of e)))
@@ -136,25 +136,25 @@ module _ (nay : Noes) (n v : ℕ) where
       (λ y. voiced_stays d.packet d.packet.phase refl))
       (λ x e i h m. m)
 
-  same_stays : (l r : CeTwoPcPacket) → Stays l (sameTermOf nay n v l r).packet
-  unfolding sameTermOf
+  same_stays : (l r : CeTwoPcPacket) → Stays l (same_term_of nay n v l r).packet
+  unfolding same_term_of
   same_stays l r =
-      let a = ensureOf n l in
-      let b = raisedOf n a (ensureOf n r) in
+      let a = ensure_of n l in
+      let b = raised_of n a (ensure_of n r) in
       let c = own_of nay n v b in
       let d = settled_of n v c c.packet.phase in
-      let ab = raised_rose nay n v a (ensureOf n r) in
+      let ab = raised_rose nay n v a (ensure_of n r) in
       let bc = own_rose nay n v b in
       let cd = settled_rose nay n v c c.packet.phase refl in
       stays_trans l a d.packet (ensure_rose nay n v l) (rose_trans ab (rose_trans bc cd)) (ensure_stays l)
-      (stays_trans a b.packet d.packet ab (rose_trans bc cd) (raised_stays a (ensureOf n r))
+      (stays_trans a b.packet d.packet ab (rose_trans bc cd) (raised_stays a (ensure_of n r))
       (stays_trans b.packet c.packet d.packet bc cd (own_stays b) (settled_stays c c.packet.phase refl)))
 
   abbrev Kept : Payload → Merged → Type 0
   Kept l m = m.payload.packet.term ≡ l.packet.term → Stays l.packet m.payload.packet
 
-  heard_stays : (l : Payload) (p : CeTwoPcPacket) (h : Held) → h ≡ Packet → Kept l (heardOf nay n v l p h)
-  unfolding heardOf
+  heard_stays : (l : Payload) (p : CeTwoPcPacket) (h : Held) → h ≡ Packet → Kept l (heard_of nay n v l p h)
+  unfolding heard_of
   heard_stays l p Empty k = absurd (let z : ◌≡◌ {A = ℕ} 0 1 = cc in omega arith)
   heard_stays l p Unreadable k = λ t e i h m. m
   heard_stays l p Packet k =
@@ -162,14 +162,14 @@ module _ (nay : Noes) (n v : ℕ) where
       (λ x t. absurd (omega (arith, ltb-true l.packet.term p.term x, (adopted_rose nay n v p).term)))
       (λ x. either_cases (Kept l) (outdated p.term l.packet.term)
       (λ y t e i h m. m)
-      (λ y. either_cases (Kept l) (sameTermOf nay n v l.packet p).news (λ z t. same_stays l.packet p) (λ z t e i h m. m)))
+      (λ y. either_cases (Kept l) (same_term_of nay n v l.packet p).news (λ z t. same_stays l.packet p) (λ z t e i h m. m)))
 
-  merged_stays : (l : Payload) (p : CeTwoPcPacket) (h : Held) → l.held ≡ Packet → Kept l (mergedBy nay n v l p h)
-  unfolding mergedBy
+  merged_stays : (l : Payload) (p : CeTwoPcPacket) (h : Held) → l.held ≡ Packet → Kept l (merged_by nay n v l p h)
+  unfolding merged_by
   merged_stays l p Empty k = λ t e i h m. m
   merged_stays l p Unreadable k = λ t e i h m. m
   merged_stays l p Packet k = heard_stays l p l.held k
 
 pub marks_stay : MarksStay
-unfolding mergeOf
+unfolding merge_of
 marks_stay nay n v l r k t e = merged_stays nay n v l r.packet r.held k t e

@@ -70,7 +70,7 @@ marks_sound s at w n h = of (list_sound bool_reads store_mark 64 0 s at w n h)
         let bs : List Bool = l.items in
         let e : marks_of (stored store_mark 0 bs 0) (length bs) ≡ bs = ap (λ (m : ℕ). marks_of m (length bs)) (stored_word bs) ∙ marks_of_word bs in
         subst (λ (v : ℕ × ℕ). Has s at (list_text bool_text (marks_of v.1 v.0)) n × ValidBitmap (bitmap_of v)) l.value
-        (has_as (ap (list_text bool_text) (sym e)) l.has, record { atMost64 = l.bounded; marks-lt = subst (λ (m : ℕ). m < 2 ^ length bs) (sym (stored_word bs)) (word_lt bs) })
+        (has_as (ap (list_text bool_text) (sym e)) l.has, record { at_most64 = l.bounded; marks_lt = subst (λ (m : ℕ). m < 2 ^ length bs) (sym (stored_word bs)) (word_lt bs) })
 
 marks_complete : (s : List ℕ) (at : ℕ) (w : ℕ × ℕ) (n : ℕ) → Has s at (bitmap_text (bitmap_of w)) n → ValidBitmap (bitmap_of w) → head_digit (drop n s) ≡ false
     → list_at bool_at store_mark 64 0 s at ≡ got w n
@@ -78,8 +78,8 @@ unfolding bitmap_text
 marks_complete s at w n h v d =
     let bs : List Bool = marks_of w.1 w.0 in
     let l : length bs ≡ w.0 = marks_length w.0 w.1 in
-    list_complete bool_reads store_mark bools_open bs 64 0 s at n (every_all (λ _. tt) bs) (omega (arith, v.atMost64)) h
-    ∙ ap₂ (λ (x y : ℕ). got (x, y) n) l (stored_word bs ∙ word_of_marks w.0 w.1 v.marks-lt)
+    list_complete bool_reads store_mark bools_open bs 64 0 s at n (every_all (λ _. tt) bs) (omega (arith, v.at_most64)) h
+    ∙ ap₂ (λ (x y : ℕ). got (x, y) n) l (stored_word bs ∙ word_of_marks w.0 w.1 v.marks_lt)
 
 pub bitmap_reads : Reads bitmap_at bitmap_text ValidBitmap
 unfolding bitmap_at
@@ -112,16 +112,16 @@ bytes_sound s at w n h = of (list_sound byte_reads store_byte most_bytes zeros s
         let e : take (length xs) (stored store_byte 0 xs zeros) ≡ xs = ap (take (length xs)) st ∙ front xs in
         subst (λ (v : ℕ × List ℕ). Has s at (list_text decimal (take v.0 v.1)) n × ValidData (data_of v)) l.value (
           has_as (ap (list_text decimal) (sym e)) l.has,
-          record { atMost32 = omega (arith, l.bounded); small = subst (Every (λ x. x < 256)) (sym e) l.may; zeros = st ∙ ap (written zeros 0) (sym e) },
+          record { at_most32 = omega (arith, l.bounded); small = subst (Every (λ x. x < 256)) (sym e) l.may; zeros = st ∙ ap (written zeros 0) (sym e) },
         )
 
 -- a valid array has its 32 bytes
 pub full : (d : Data) → ValidData d → length (take d.len d.bytes) ≡ d.len
 full d v =
     let xs : List ℕ = take d.len d.bytes in
-    let short : length xs ≤ 32 = omega (arith, length-take d.len d.bytes, v.atMost32) in
+    let short : length xs ≤ 32 = omega (arith, length-take d.len d.bytes, v.at_most32) in
     let whole : length d.bytes ≡ 32 = ap length v.zeros ∙ length_written zeros 0 xs (omega arith) in
-    length-take-le d.len d.bytes (omega (arith, v.atMost32))
+    length-take-le d.len d.bytes (omega (arith, v.at_most32))
 
 bytes_complete : (s : List ℕ) (at : ℕ) (w : ℕ × List ℕ) (n : ℕ) → Has s at (data_text (data_of w)) n → ValidData (data_of w) → head_digit (drop n s) ≡ false
     → list_at (num_at 256) store_byte most_bytes zeros s at ≡ got w n
@@ -129,8 +129,8 @@ unfolding data_text
 bytes_complete s at w n h v d =
     let xs : List ℕ = take w.0 w.1 in
     let l : length xs ≡ w.0 = full (data_of w) v in
-    list_complete byte_reads store_byte decimals_open xs most_bytes zeros s at n v.small (omega (arith, v.atMost32)) h
-    ∙ ap₂ (λ (x : ℕ) (y : List ℕ). got (x, y) n) l (stored_bytes xs 0 zeros (omega (arith, v.atMost32)) ∙ sym v.zeros)
+    list_complete byte_reads store_byte decimals_open xs most_bytes zeros s at n v.small (omega (arith, v.at_most32)) h
+    ∙ ap₂ (λ (x : ℕ) (y : List ℕ). got (x, y) n) l (stored_bytes xs 0 zeros (omega (arith, v.at_most32)) ∙ sym v.zeros)
 
 pub data_reads : Reads data_at data_text ValidData
 unfolding data_at

@@ -19,26 +19,26 @@ use Rattle.texts.specs.Rfc8259.{Tree, Ws, Str, Value, Members, Json}
 use Rattle.texts.specs.JsonLaws.{bare, number_of, chars, bool_value, list_value}
 use Rattle.texts.proofs.Single.{single}
 use Rattle.packets.specs.Packets.{
-  phaseText,
-  bitmapText,
-  dataText,
-  txText,
-  stateText,
-  keyTerm,
-  keyPhase,
-  keyProposalData,
-  keyFlagsBitmap,
-  keyTransactionId,
-  keyState,
-  keyAbortFlag,
-  keyNackTxId,
-  keyTransactionData,
-  keySender,
-  keyPiggybackTx,
-  keyPiggybackState,
-  keyEnd,
-  ceText,
-  pipelineText,
+  phase_text,
+  bitmap_text,
+  data_text,
+  tx_text,
+  state_text,
+  key_term,
+  key_phase,
+  key_proposal_data,
+  key_flags_bitmap,
+  key_transaction_id,
+  key_state,
+  key_abort_flag,
+  key_nack_tx_id,
+  key_transaction_data,
+  key_sender,
+  key_piggyback_tx,
+  key_piggyback_state,
+  key_end,
+  ce_text,
+  pipeline_text,
   ValidBitmap,
   ValidData,
   ValidTx,
@@ -65,25 +65,25 @@ use Rattle.packets.specs.declared.CeRead.{CeRead}
 use Rattle.packets.specs.declared.PipelineRead.{PipelineRead}
 
 -- ---- the parts are JSON values
-phase_value_lem : (p : TwoPcPhase) → Value (phaseText p) (phase_value p)
-phase_value_lem Prepare = Value.is-string (Str.quoted (chars (phase_name Prepare) tt))
-phase_value_lem Committed = Value.is-string (Str.quoted (chars (phase_name Committed) tt))
-phase_value_lem Aborted = Value.is-string (Str.quoted (chars (phase_name Aborted) tt))
+phase_value_lem : (p : TwoPcPhase) → Value (phase_text p) (phase_value p)
+phase_value_lem Prepare = Value.is_string (Str.quoted (chars (phase_name Prepare) tt))
+phase_value_lem Committed = Value.is_string (Str.quoted (chars (phase_name Committed) tt))
+phase_value_lem Aborted = Value.is_string (Str.quoted (chars (phase_name Aborted) tt))
 
-bitmap_value_lem : (b : Bitmap) → Value (bitmapText b) (bitmap_value b)
-unfolding bitmapText
+bitmap_value_lem : (b : Bitmap) → Value (bitmap_text b) (bitmap_value b)
+unfolding bitmap_text
 bitmap_value_lem b = list_value bool_text Tree.bool bool_value (marks_of b.marks b.len)
 
-data_value_lem : (d : Data) → Value (dataText d) (data_value d)
-unfolding dataText
+data_value_lem : (d : Data) → Value (data_text d) (data_value d)
+unfolding data_text
 data_value_lem d = list_value decimal num_value (λ n. Value.is_number (number_of n)) (take d.len d.bytes)
 
-tx_value_lem : (p : PiggybackTx) → Value (txText p) (tx_value p)
-tx_value_lem tx.Absent = Value.is-null
+tx_value_lem : (p : PiggybackTx) → Value (tx_text p) (tx_value p)
+tx_value_lem tx.Absent = Value.is_null
 tx_value_lem (tx.Present n) = Value.is_number (number_of n)
 
-state_value_lem : (p : PiggybackState) → Value (stateText p) (state_value p)
-state_value_lem state.Absent = Value.is-null
+state_value_lem : (p : PiggybackState) → Value (state_text p) (state_value p)
+state_value_lem state.Absent = Value.is_null
 state_value_lem (state.Present p) = phase_value_lem p
 
 -- ---- how long valid parts can be
@@ -97,49 +97,49 @@ unfolding list_text
 list_short [] none = omega arith
 list_short (x ∷ r) (more h k) = omega (arith, decimal_le x 2 (omega arith), length-append (decimal x) (items_text decimal r), items_short r k)
 
-data_short : (d : Data) → ValidData d → length (dataText d) ≤ 129
-unfolding dataText
-data_short d v = omega (arith, list_short (take d.len d.bytes) v.small, full d v, v.atMost32)
+data_short : (d : Data) → ValidData d → length (data_text d) ≤ 129
+unfolding data_text
+data_short d v = omega (arith, list_short (take d.len d.bytes) v.small, full d v, v.at_most32)
 
-bitmap_short : (b : Bitmap) → ValidBitmap b → length (bitmapText b) ≤ 385
+bitmap_short : (b : Bitmap) → ValidBitmap b → length (bitmap_text b) ≤ 385
 bitmap_short b v = go (eqb b.len 0) refl
   where
-    go : (t : Bool) → eqb b.len 0 ≡ t → length (bitmapText b) ≤ 385
+    go : (t : Bool) → eqb b.len 0 ≡ t → length (bitmap_text b) ≤ 385
     go true e = omega (arith, bitmap_len_none b (eqb-true b.len 0 e))
-    go false e = omega (arith, bitmap_len_more b (eqb-false b.len 0 e), marks_len_le b.len b.marks, v.atMost64)
+    go false e = omega (arith, bitmap_len_more b (eqb-false b.len 0 e), marks_len_le b.len b.marks, v.at_most64)
 
-tx_short : (p : PiggybackTx) → ValidTx p → length (txText p) ≤ 20
+tx_short : (p : PiggybackTx) → ValidTx p → length (tx_text p) ≤ 20
 tx_short tx.Absent h = omega arith
 tx_short (tx.Present n) h = decimal_word n h
 
 -- no digit stands at the end
-end_stops : (x : List ℕ) → head_digit (keyEnd ++ x) ≡ false
+end_stops : (x : List ℕ) → head_digit (key_end ++ x) ≡ false
 unfolding head_digit is_digit
 end_stops x = refl
 
 -- ---- CeTwoPcPacket
 abbrev ce_parts : ℕ × (TwoPcPhase × (Data × Bitmap)) → List ℕ
-ce_parts w = (keyTerm ++ decimal w.0) ++ ((keyPhase ++ phaseText w.1.0) ++ ((keyProposalData ++ dataText w.1.1.0) ++ ((keyFlagsBitmap ++ bitmapText w.1.1.1))))
+ce_parts w = (key_term ++ decimal w.0) ++ ((key_phase ++ phase_text w.1.0) ++ ((key_proposal_data ++ data_text w.1.1.0) ++ ((key_flags_bitmap ++ bitmap_text w.1.1.1))))
 
 abbrev ce_may : ℕ × (TwoPcPhase × (Data × Bitmap)) → Type 0
 ce_may w = (w.0 < 2 ^ 64) × (Unit {0} × (ValidData w.1.1.0 × (ValidBitmap w.1.1.1)))
 
 ce_reads : Reads ce_fields ce_parts ce_may
 unfolding ce_fields head_digit is_digit
-ce_reads = (both_reads (behind_reads keyTerm (num_reads (2 ^ 64) (omega arith)))
-    (both_reads (behind_reads keyPhase phase_reads)
-    (both_reads (behind_reads keyProposalData data_reads)
-    (behind_reads keyFlagsBitmap bitmap_reads) (λ b x. refl)) (λ b x. refl)) (λ b x. refl))
+ce_reads = (both_reads (behind_reads key_term (num_reads (2 ^ 64) (omega arith)))
+    (both_reads (behind_reads key_phase phase_reads)
+    (both_reads (behind_reads key_proposal_data data_reads)
+    (behind_reads key_flags_bitmap bitmap_reads) (λ b x. refl)) (λ b x. refl)) (λ b x. refl))
 
-ce_join : (v1 v2 v3 v4 : List ℕ) → ((keyTerm ++ v1) ++ ((keyPhase ++ v2) ++ ((keyProposalData ++ v3) ++ (keyFlagsBitmap ++ v4)))) ++ keyEnd ≡ keyTerm ++ (v1 ++ (keyPhase ++ (v2 ++ (keyProposalData ++ (v3 ++ (keyFlagsBitmap ++ (v4 ++ keyEnd)))))))
+ce_join : (v1 v2 v3 v4 : List ℕ) → ((key_term ++ v1) ++ ((key_phase ++ v2) ++ ((key_proposal_data ++ v3) ++ (key_flags_bitmap ++ v4)))) ++ key_end ≡ key_term ++ (v1 ++ (key_phase ++ (v2 ++ (key_proposal_data ++ (v3 ++ (key_flags_bitmap ++ (v4 ++ key_end)))))))
 ce_join v1 v2 v3 v4 =
-    append_assoc (keyTerm ++ v1) ((keyPhase ++ v2) ++ ((keyProposalData ++ v3) ++ (keyFlagsBitmap ++ v4))) keyEnd
-    ∙ ap (λ (x : List ℕ). (keyTerm ++ v1) ++ x) (append_assoc (keyPhase ++ v2) ((keyProposalData ++ v3) ++ (keyFlagsBitmap ++ v4)) keyEnd
-    ∙ ap (λ (x : List ℕ). (keyPhase ++ v2) ++ x) (append_assoc (keyProposalData ++ v3) (keyFlagsBitmap ++ v4) keyEnd))
+    append_assoc (key_term ++ v1) ((key_phase ++ v2) ++ ((key_proposal_data ++ v3) ++ (key_flags_bitmap ++ v4))) key_end
+    ∙ ap (λ (x : List ℕ). (key_term ++ v1) ++ x) (append_assoc (key_phase ++ v2) ((key_proposal_data ++ v3) ++ (key_flags_bitmap ++ v4)) key_end
+    ∙ ap (λ (x : List ℕ). (key_phase ++ v2) ++ x) (append_assoc (key_proposal_data ++ v3) (key_flags_bitmap ++ v4) key_end))
 
-ce_text : (w : ℕ × (TwoPcPhase × (Data × Bitmap))) → ce_parts w ++ keyEnd ≡ ceText (ce_packet w)
-unfolding ceText
-ce_text w = ce_join (decimal w.0) (phaseText w.1.0) (dataText w.1.1.0) (bitmapText w.1.1.1)
+ce_text_lem : (w : ℕ × (TwoPcPhase × (Data × Bitmap))) → ce_parts w ++ key_end ≡ ce_text (ce_packet w)
+unfolding ce_text
+ce_text_lem w = ce_join (decimal w.0) (phase_text w.1.0) (data_text w.1.1.0) (bitmap_text w.1.1.1)
 
 ce_valid : (w : ℕ × (TwoPcPhase × (Data × Bitmap))) → ce_may w → ValidCe (ce_packet w)
 ce_valid w m = record { term_fits = m.0; bytes = m.1.1.0; bitmap = m.1.1.1 }
@@ -150,40 +150,40 @@ ce_values p = (p.term, (p.phase, (p.proposal_data, p.flags_bitmap)))
 ce_may_lem : (p : CeTwoPcPacket) → ValidCe p → ce_may (ce_values p)
 ce_may_lem p v = (v.term_fits, (tt, (v.bytes, v.bitmap)))
 
-ce_given : (s : List ℕ) → (ce_read_of s).refusal ≡ 0 → (s ≡ ceText (ce_read_of s).packet) × ValidCe (ce_read_of s).packet
+ce_given : (s : List ℕ) → (ce_read_of s).refusal ≡ 0 → (s ≡ ce_text (ce_read_of s).packet) × ValidCe (ce_read_of s).packet
 unfolding ce_read_of ce_no on
-ce_given s h = go (whole ce_fields keyEnd s) refl h
+ce_given s h = go (whole ce_fields key_end s) refl h
   where
-    go : (x : Found (ℕ × (TwoPcPhase × (Data × Bitmap)))) → whole ce_fields keyEnd s ≡ x → (on x (λ w n. ce_yes (ce_packet w)) (ce_no bad_packet)).refusal ≡ 0
-        → (s ≡ ceText (on x (λ w n. ce_yes (ce_packet w)) (ce_no bad_packet)).packet) × ValidCe (on x (λ w n. ce_yes (ce_packet w)) (ce_no bad_packet)).packet
-    go (got w n) e k = let q = whole_sound keyEnd ce_reads s w n e in (q.0 ∙ ce_text w, ce_valid w q.1)
+    go : (x : Found (ℕ × (TwoPcPhase × (Data × Bitmap)))) → whole ce_fields key_end s ≡ x → (on x (λ w n. ce_yes (ce_packet w)) (ce_no bad_packet)).refusal ≡ 0
+        → (s ≡ ce_text (on x (λ w n. ce_yes (ce_packet w)) (ce_no bad_packet)).packet) × ValidCe (on x (λ w n. ce_yes (ce_packet w)) (ce_no bad_packet)).packet
+    go (got w n) e k = let q = whole_sound key_end ce_reads s w n e in (q.0 ∙ ce_text_lem w, ce_valid w q.1)
     go bad e k = absurd (omega arith)
 
-ce_back : (p : CeTwoPcPacket) → ValidCe p → ce_read_of (ceText p) ≡ ce_yes p
+ce_back : (p : CeTwoPcPacket) → ValidCe p → ce_read_of (ce_text p) ≡ ce_yes p
 unfolding ce_read_of on
-ce_back p v = rw (whole_complete keyEnd ce_reads (ceText p) (ce_values p) end_stops (ce_may_lem p v) (sym (ce_text (ce_values p))))
+ce_back p v = rw (whole_complete key_end ce_reads (ce_text p) (ce_values p) end_stops (ce_may_lem p v) (sym (ce_text_lem (ce_values p))))
 
-ce_other : (s : List ℕ) → ((p : CeTwoPcPacket) → ValidCe p → s ≡ ceText p → ⊥) → (ce_read_of s).refusal ≡ bad_packet
+ce_other : (s : List ℕ) → ((p : CeTwoPcPacket) → ValidCe p → s ≡ ce_text p → ⊥) → (ce_read_of s).refusal ≡ bad_packet
 unfolding ce_read_of ce_no on
-ce_other s h = go (whole ce_fields keyEnd s) refl
+ce_other s h = go (whole ce_fields key_end s) refl
   where
-    go : (x : Found (ℕ × (TwoPcPhase × (Data × Bitmap)))) → whole ce_fields keyEnd s ≡ x → (on x (λ w n. ce_yes (ce_packet w)) (ce_no bad_packet)).refusal ≡ bad_packet
-    go (got w n) e = let q = whole_sound keyEnd ce_reads s w n e in absurd (h (ce_packet w) (ce_valid w q.1) (q.0 ∙ ce_text w))
+    go : (x : Found (ℕ × (TwoPcPhase × (Data × Bitmap)))) → whole ce_fields key_end s ≡ x → (on x (λ w n. ce_yes (ce_packet w)) (ce_no bad_packet)).refusal ≡ bad_packet
+    go (got w n) e = let q = whole_sound key_end ce_reads s w n e in absurd (h (ce_packet w) (ce_valid w q.1) (q.0 ∙ ce_text_lem w))
     go bad e = refl
 
-pub ce_json : (p : CeTwoPcPacket) → Json (ceText p) (ce_value p)
-unfolding ceText ce_value
+pub ce_json : (p : CeTwoPcPacket) → Json (ce_text p) (ce_value p)
+unfolding ce_text ce_value
 ce_json p =
-    subst (λ (t : List ℕ). Json t (ce_value p)) (append-nil (ceText p))
+    subst (λ (t : List ℕ). Json t (ce_value p)) (append-nil (ce_text p))
     (Json.text Ws.end
     (Value.members (bare 123) (Str.quoted (chars name_term tt)) (bare 58) (Value.is_number (number_of p.term))
-    (Members.more-members (bare 44) (Str.quoted (chars name_phase tt)) (bare 58) (phase_value_lem p.phase)
-    (Members.more-members (bare 44) (Str.quoted (chars name_proposal_data tt)) (bare 58) (data_value_lem p.proposal_data)
-    (Members.more-members (bare 44) (Str.quoted (chars name_flags_bitmap tt)) (bare 58) (bitmap_value_lem p.flags_bitmap)
-    (Members.close-members (bare 125))))))
+    (Members.more_members (bare 44) (Str.quoted (chars name_phase tt)) (bare 58) (phase_value_lem p.phase)
+    (Members.more_members (bare 44) (Str.quoted (chars name_proposal_data tt)) (bare 58) (data_value_lem p.proposal_data)
+    (Members.more_members (bare 44) (Str.quoted (chars name_flags_bitmap tt)) (bare 58) (bitmap_value_lem p.flags_bitmap)
+    (Members.close_members (bare 125))))))
     Ws.end)
 
-ce_short : (p : CeTwoPcPacket) → ValidCe p → length (ceText p) ≤ 596
+ce_short : (p : CeTwoPcPacket) → ValidCe p → length (ce_text p) ≤ 596
 ce_short p v = omega (arith, ce_length p, decimal_word p.term v.term_fits, phase_le p.phase, data_short p.proposal_data v.bytes, bitmap_short p.flags_bitmap v.bitmap)
 
 ce_said : (s : List ℕ) → (ce_read_of s).refusal ≡ 0 → Json s (ce_value (ce_read_of s).packet)
@@ -207,87 +207,87 @@ ce_promises =
 
 -- ---- TwoPcPacket
 abbrev pipeline_parts : PipelineValues → List ℕ
-pipeline_parts w = (keyTransactionId ++ decimal w.0) ++ ((keyState ++ phaseText w.1.0) ++ ((keyFlagsBitmap ++ bitmapText w.1.1.0) ++ ((keyAbortFlag ++ bool_text w.1.1.1.0) ++ ((keyNackTxId ++ decimal w.1.1.1.1.0) ++ ((keyTransactionData ++ dataText w.1.1.1.1.1.0) ++ ((keySender ++ decimal w.1.1.1.1.1.1.0) ++ ((keyPiggybackTx ++ txText w.1.1.1.1.1.1.1.0) ++ ((keyPiggybackState ++ stateText w.1.1.1.1.1.1.1.1)))))))))
+pipeline_parts w = (key_transaction_id ++ decimal w.0) ++ ((key_state ++ phase_text w.1.0) ++ ((key_flags_bitmap ++ bitmap_text w.1.1.0) ++ ((key_abort_flag ++ bool_text w.1.1.1.0) ++ ((key_nack_tx_id ++ decimal w.1.1.1.1.0) ++ ((key_transaction_data ++ data_text w.1.1.1.1.1.0) ++ ((key_sender ++ decimal w.1.1.1.1.1.1.0) ++ ((key_piggyback_tx ++ tx_text w.1.1.1.1.1.1.1.0) ++ ((key_piggyback_state ++ state_text w.1.1.1.1.1.1.1.1)))))))))
 
 abbrev pipeline_may : PipelineValues → Type 0
 pipeline_may w = (w.0 < 2 ^ 64) × (Unit {0} × (ValidBitmap w.1.1.0 × (Unit {0} × ((w.1.1.1.1.0 < 2 ^ 64) × (ValidData w.1.1.1.1.1.0 × ((w.1.1.1.1.1.1.0 < 2 ^ 64) × (ValidTx w.1.1.1.1.1.1.1.0 × (Unit {0}))))))))
 
 pipeline_reads : Reads pipeline_fields pipeline_parts pipeline_may
 unfolding pipeline_fields head_digit is_digit
-pipeline_reads = (both_reads (behind_reads keyTransactionId (num_reads (2 ^ 64) (omega arith)))
-    (both_reads (behind_reads keyState phase_reads)
-    (both_reads (behind_reads keyFlagsBitmap bitmap_reads)
-    (both_reads (behind_reads keyAbortFlag bool_reads)
-    (both_reads (behind_reads keyNackTxId (num_reads (2 ^ 64) (omega arith)))
-    (both_reads (behind_reads keyTransactionData data_reads)
-    (both_reads (behind_reads keySender (num_reads (2 ^ 64) (omega arith)))
-    (both_reads (behind_reads keyPiggybackTx tx_reads)
-    (behind_reads keyPiggybackState state_reads) (λ b x. refl)) (λ b x. refl)) (λ b x. refl)) (λ b x. refl)) (λ b x. refl)) (λ b x. refl)) (λ b x. refl)) (λ b x. refl))
+pipeline_reads = (both_reads (behind_reads key_transaction_id (num_reads (2 ^ 64) (omega arith)))
+    (both_reads (behind_reads key_state phase_reads)
+    (both_reads (behind_reads key_flags_bitmap bitmap_reads)
+    (both_reads (behind_reads key_abort_flag bool_reads)
+    (both_reads (behind_reads key_nack_tx_id (num_reads (2 ^ 64) (omega arith)))
+    (both_reads (behind_reads key_transaction_data data_reads)
+    (both_reads (behind_reads key_sender (num_reads (2 ^ 64) (omega arith)))
+    (both_reads (behind_reads key_piggyback_tx tx_reads)
+    (behind_reads key_piggyback_state state_reads) (λ b x. refl)) (λ b x. refl)) (λ b x. refl)) (λ b x. refl)) (λ b x. refl)) (λ b x. refl)) (λ b x. refl)) (λ b x. refl))
 
-pipeline_join : (v1 v2 v3 v4 v5 v6 v7 v8 v9 : List ℕ) → ((keyTransactionId ++ v1) ++ ((keyState ++ v2) ++ ((keyFlagsBitmap ++ v3) ++ ((keyAbortFlag ++ v4) ++ ((keyNackTxId ++ v5) ++ ((keyTransactionData ++ v6) ++ ((keySender ++ v7) ++ ((keyPiggybackTx ++ v8) ++ (keyPiggybackState ++ v9))))))))) ++ keyEnd ≡ keyTransactionId ++ (v1 ++ (keyState ++ (v2 ++ (keyFlagsBitmap ++ (v3 ++ (keyAbortFlag ++ (v4 ++ (keyNackTxId ++ (v5 ++ (keyTransactionData ++ (v6 ++ (keySender ++ (v7 ++ (keyPiggybackTx ++ (v8 ++ (keyPiggybackState ++ (v9 ++ keyEnd)))))))))))))))))
+pipeline_join : (v1 v2 v3 v4 v5 v6 v7 v8 v9 : List ℕ) → ((key_transaction_id ++ v1) ++ ((key_state ++ v2) ++ ((key_flags_bitmap ++ v3) ++ ((key_abort_flag ++ v4) ++ ((key_nack_tx_id ++ v5) ++ ((key_transaction_data ++ v6) ++ ((key_sender ++ v7) ++ ((key_piggyback_tx ++ v8) ++ (key_piggyback_state ++ v9))))))))) ++ key_end ≡ key_transaction_id ++ (v1 ++ (key_state ++ (v2 ++ (key_flags_bitmap ++ (v3 ++ (key_abort_flag ++ (v4 ++ (key_nack_tx_id ++ (v5 ++ (key_transaction_data ++ (v6 ++ (key_sender ++ (v7 ++ (key_piggyback_tx ++ (v8 ++ (key_piggyback_state ++ (v9 ++ key_end)))))))))))))))))
 pipeline_join v1 v2 v3 v4 v5 v6 v7 v8 v9 =
-    append_assoc (keyTransactionId ++ v1) ((keyState ++ v2) ++ ((keyFlagsBitmap ++ v3) ++ ((keyAbortFlag ++ v4) ++ ((keyNackTxId ++ v5) ++ ((keyTransactionData ++ v6) ++ ((keySender ++ v7) ++ ((keyPiggybackTx ++ v8) ++ (keyPiggybackState ++ v9)))))))) keyEnd
-    ∙ ap (λ (x : List ℕ). (keyTransactionId ++ v1) ++ x) (append_assoc (keyState ++ v2) ((keyFlagsBitmap ++ v3) ++ ((keyAbortFlag ++ v4) ++ ((keyNackTxId ++ v5) ++ ((keyTransactionData ++ v6) ++ ((keySender ++ v7) ++ ((keyPiggybackTx ++ v8) ++ (keyPiggybackState ++ v9))))))) keyEnd
-    ∙ ap (λ (x : List ℕ). (keyState ++ v2) ++ x) (append_assoc (keyFlagsBitmap ++ v3) ((keyAbortFlag ++ v4) ++ ((keyNackTxId ++ v5) ++ ((keyTransactionData ++ v6) ++ ((keySender ++ v7) ++ ((keyPiggybackTx ++ v8) ++ (keyPiggybackState ++ v9)))))) keyEnd
-    ∙ ap (λ (x : List ℕ). (keyFlagsBitmap ++ v3) ++ x) (append_assoc (keyAbortFlag ++ v4) ((keyNackTxId ++ v5) ++ ((keyTransactionData ++ v6) ++ ((keySender ++ v7) ++ ((keyPiggybackTx ++ v8) ++ (keyPiggybackState ++ v9))))) keyEnd
-    ∙ ap (λ (x : List ℕ). (keyAbortFlag ++ v4) ++ x) (append_assoc (keyNackTxId ++ v5) ((keyTransactionData ++ v6) ++ ((keySender ++ v7) ++ ((keyPiggybackTx ++ v8) ++ (keyPiggybackState ++ v9)))) keyEnd
-    ∙ ap (λ (x : List ℕ). (keyNackTxId ++ v5) ++ x) (append_assoc (keyTransactionData ++ v6) ((keySender ++ v7) ++ ((keyPiggybackTx ++ v8) ++ (keyPiggybackState ++ v9))) keyEnd
-    ∙ ap (λ (x : List ℕ). (keyTransactionData ++ v6) ++ x) (append_assoc (keySender ++ v7) ((keyPiggybackTx ++ v8) ++ (keyPiggybackState ++ v9)) keyEnd
-    ∙ ap (λ (x : List ℕ). (keySender ++ v7) ++ x) (append_assoc (keyPiggybackTx ++ v8) (keyPiggybackState ++ v9) keyEnd)))))))
+    append_assoc (key_transaction_id ++ v1) ((key_state ++ v2) ++ ((key_flags_bitmap ++ v3) ++ ((key_abort_flag ++ v4) ++ ((key_nack_tx_id ++ v5) ++ ((key_transaction_data ++ v6) ++ ((key_sender ++ v7) ++ ((key_piggyback_tx ++ v8) ++ (key_piggyback_state ++ v9)))))))) key_end
+    ∙ ap (λ (x : List ℕ). (key_transaction_id ++ v1) ++ x) (append_assoc (key_state ++ v2) ((key_flags_bitmap ++ v3) ++ ((key_abort_flag ++ v4) ++ ((key_nack_tx_id ++ v5) ++ ((key_transaction_data ++ v6) ++ ((key_sender ++ v7) ++ ((key_piggyback_tx ++ v8) ++ (key_piggyback_state ++ v9))))))) key_end
+    ∙ ap (λ (x : List ℕ). (key_state ++ v2) ++ x) (append_assoc (key_flags_bitmap ++ v3) ((key_abort_flag ++ v4) ++ ((key_nack_tx_id ++ v5) ++ ((key_transaction_data ++ v6) ++ ((key_sender ++ v7) ++ ((key_piggyback_tx ++ v8) ++ (key_piggyback_state ++ v9)))))) key_end
+    ∙ ap (λ (x : List ℕ). (key_flags_bitmap ++ v3) ++ x) (append_assoc (key_abort_flag ++ v4) ((key_nack_tx_id ++ v5) ++ ((key_transaction_data ++ v6) ++ ((key_sender ++ v7) ++ ((key_piggyback_tx ++ v8) ++ (key_piggyback_state ++ v9))))) key_end
+    ∙ ap (λ (x : List ℕ). (key_abort_flag ++ v4) ++ x) (append_assoc (key_nack_tx_id ++ v5) ((key_transaction_data ++ v6) ++ ((key_sender ++ v7) ++ ((key_piggyback_tx ++ v8) ++ (key_piggyback_state ++ v9)))) key_end
+    ∙ ap (λ (x : List ℕ). (key_nack_tx_id ++ v5) ++ x) (append_assoc (key_transaction_data ++ v6) ((key_sender ++ v7) ++ ((key_piggyback_tx ++ v8) ++ (key_piggyback_state ++ v9))) key_end
+    ∙ ap (λ (x : List ℕ). (key_transaction_data ++ v6) ++ x) (append_assoc (key_sender ++ v7) ((key_piggyback_tx ++ v8) ++ (key_piggyback_state ++ v9)) key_end
+    ∙ ap (λ (x : List ℕ). (key_sender ++ v7) ++ x) (append_assoc (key_piggyback_tx ++ v8) (key_piggyback_state ++ v9) key_end)))))))
 
-pipeline_text : (w : PipelineValues) → pipeline_parts w ++ keyEnd ≡ pipelineText (pipeline_packet w)
-unfolding pipelineText
-pipeline_text w = pipeline_join (decimal w.0) (phaseText w.1.0) (bitmapText w.1.1.0) (bool_text w.1.1.1.0) (decimal w.1.1.1.1.0) (dataText w.1.1.1.1.1.0) (decimal w.1.1.1.1.1.1.0) (txText w.1.1.1.1.1.1.1.0) (stateText w.1.1.1.1.1.1.1.1)
+pipeline_text_lem : (w : PipelineValues) → pipeline_parts w ++ key_end ≡ pipeline_text (pipeline_packet w)
+unfolding pipeline_text
+pipeline_text_lem w = pipeline_join (decimal w.0) (phase_text w.1.0) (bitmap_text w.1.1.0) (bool_text w.1.1.1.0) (decimal w.1.1.1.1.0) (data_text w.1.1.1.1.1.0) (decimal w.1.1.1.1.1.1.0) (tx_text w.1.1.1.1.1.1.1.0) (state_text w.1.1.1.1.1.1.1.1)
 
 pipeline_valid : (w : PipelineValues) → pipeline_may w → ValidPipeline (pipeline_packet w)
-pipeline_valid w m = record { id-fits = m.0; bitmap = m.1.1.0; nack-fits = m.1.1.1.1.0; bytes = m.1.1.1.1.1.0; sender-fits = m.1.1.1.1.1.1.0; tx-fits = m.1.1.1.1.1.1.1.0 }
+pipeline_valid w m = record { id_fits = m.0; bitmap = m.1.1.0; nack_fits = m.1.1.1.1.0; bytes = m.1.1.1.1.1.0; sender_fits = m.1.1.1.1.1.1.0; tx_fits = m.1.1.1.1.1.1.1.0 }
 
 abbrev pipeline_values : TwoPcPacket → PipelineValues
 pipeline_values p = (p.transaction_id, (p.state, (p.flags_bitmap, (p.abort_flag, (p.nack_tx_id, (p.transaction_data, (p.sender, (p.piggyback_tx, p.piggyback_state))))))))
 
 pipeline_may_lem : (p : TwoPcPacket) → ValidPipeline p → pipeline_may (pipeline_values p)
-pipeline_may_lem p v = (v.id-fits, (tt, (v.bitmap, (tt, (v.nack-fits, (v.bytes, (v.sender-fits, (v.tx-fits, tt))))))))
+pipeline_may_lem p v = (v.id_fits, (tt, (v.bitmap, (tt, (v.nack_fits, (v.bytes, (v.sender_fits, (v.tx_fits, tt))))))))
 
-pipeline_given : (s : List ℕ) → (pipeline_read_of s).refusal ≡ 0 → (s ≡ pipelineText (pipeline_read_of s).packet) × ValidPipeline (pipeline_read_of s).packet
+pipeline_given : (s : List ℕ) → (pipeline_read_of s).refusal ≡ 0 → (s ≡ pipeline_text (pipeline_read_of s).packet) × ValidPipeline (pipeline_read_of s).packet
 unfolding pipeline_read_of pipeline_no on
-pipeline_given s h = go (whole pipeline_fields keyEnd s) refl h
+pipeline_given s h = go (whole pipeline_fields key_end s) refl h
   where
-    go : (x : Found (PipelineValues)) → whole pipeline_fields keyEnd s ≡ x → (on x (λ w n. pipeline_yes (pipeline_packet w)) (pipeline_no bad_packet)).refusal ≡ 0
-        → (s ≡ pipelineText (on x (λ w n. pipeline_yes (pipeline_packet w)) (pipeline_no bad_packet)).packet) × ValidPipeline (on x (λ w n. pipeline_yes (pipeline_packet w)) (pipeline_no bad_packet)).packet
-    go (got w n) e k = let q = whole_sound keyEnd pipeline_reads s w n e in (q.0 ∙ pipeline_text w, pipeline_valid w q.1)
+    go : (x : Found (PipelineValues)) → whole pipeline_fields key_end s ≡ x → (on x (λ w n. pipeline_yes (pipeline_packet w)) (pipeline_no bad_packet)).refusal ≡ 0
+        → (s ≡ pipeline_text (on x (λ w n. pipeline_yes (pipeline_packet w)) (pipeline_no bad_packet)).packet) × ValidPipeline (on x (λ w n. pipeline_yes (pipeline_packet w)) (pipeline_no bad_packet)).packet
+    go (got w n) e k = let q = whole_sound key_end pipeline_reads s w n e in (q.0 ∙ pipeline_text_lem w, pipeline_valid w q.1)
     go bad e k = absurd (omega arith)
 
-pipeline_back : (p : TwoPcPacket) → ValidPipeline p → pipeline_read_of (pipelineText p) ≡ pipeline_yes p
+pipeline_back : (p : TwoPcPacket) → ValidPipeline p → pipeline_read_of (pipeline_text p) ≡ pipeline_yes p
 unfolding pipeline_read_of on
-pipeline_back p v = rw (whole_complete keyEnd pipeline_reads (pipelineText p) (pipeline_values p) end_stops (pipeline_may_lem p v) (sym (pipeline_text (pipeline_values p))))
+pipeline_back p v = rw (whole_complete key_end pipeline_reads (pipeline_text p) (pipeline_values p) end_stops (pipeline_may_lem p v) (sym (pipeline_text_lem (pipeline_values p))))
 
-pipeline_other : (s : List ℕ) → ((p : TwoPcPacket) → ValidPipeline p → s ≡ pipelineText p → ⊥) → (pipeline_read_of s).refusal ≡ bad_packet
+pipeline_other : (s : List ℕ) → ((p : TwoPcPacket) → ValidPipeline p → s ≡ pipeline_text p → ⊥) → (pipeline_read_of s).refusal ≡ bad_packet
 unfolding pipeline_read_of pipeline_no on
-pipeline_other s h = go (whole pipeline_fields keyEnd s) refl
+pipeline_other s h = go (whole pipeline_fields key_end s) refl
   where
-    go : (x : Found (PipelineValues)) → whole pipeline_fields keyEnd s ≡ x → (on x (λ w n. pipeline_yes (pipeline_packet w)) (pipeline_no bad_packet)).refusal ≡ bad_packet
-    go (got w n) e = let q = whole_sound keyEnd pipeline_reads s w n e in absurd (h (pipeline_packet w) (pipeline_valid w q.1) (q.0 ∙ pipeline_text w))
+    go : (x : Found (PipelineValues)) → whole pipeline_fields key_end s ≡ x → (on x (λ w n. pipeline_yes (pipeline_packet w)) (pipeline_no bad_packet)).refusal ≡ bad_packet
+    go (got w n) e = let q = whole_sound key_end pipeline_reads s w n e in absurd (h (pipeline_packet w) (pipeline_valid w q.1) (q.0 ∙ pipeline_text_lem w))
     go bad e = refl
 
-pub pipeline_json : (p : TwoPcPacket) → Json (pipelineText p) (pipeline_value p)
-unfolding pipelineText pipeline_value
+pub pipeline_json : (p : TwoPcPacket) → Json (pipeline_text p) (pipeline_value p)
+unfolding pipeline_text pipeline_value
 pipeline_json p =
-    subst (λ (t : List ℕ). Json t (pipeline_value p)) (append-nil (pipelineText p))
+    subst (λ (t : List ℕ). Json t (pipeline_value p)) (append-nil (pipeline_text p))
     (Json.text Ws.end
     (Value.members (bare 123) (Str.quoted (chars name_transaction_id tt)) (bare 58) (Value.is_number (number_of p.transaction_id))
-    (Members.more-members (bare 44) (Str.quoted (chars name_state tt)) (bare 58) (phase_value_lem p.state)
-    (Members.more-members (bare 44) (Str.quoted (chars name_flags_bitmap tt)) (bare 58) (bitmap_value_lem p.flags_bitmap)
-    (Members.more-members (bare 44) (Str.quoted (chars name_abort_flag tt)) (bare 58) (bool_value p.abort_flag)
-    (Members.more-members (bare 44) (Str.quoted (chars name_nack_tx_id tt)) (bare 58) (Value.is_number (number_of p.nack_tx_id))
-    (Members.more-members (bare 44) (Str.quoted (chars name_transaction_data tt)) (bare 58) (data_value_lem p.transaction_data)
-    (Members.more-members (bare 44) (Str.quoted (chars name_sender tt)) (bare 58) (Value.is_number (number_of p.sender))
-    (Members.more-members (bare 44) (Str.quoted (chars name_piggyback_tx tt)) (bare 58) (tx_value_lem p.piggyback_tx)
-    (Members.more-members (bare 44) (Str.quoted (chars name_piggyback_state tt)) (bare 58) (state_value_lem p.piggyback_state)
-    (Members.close-members (bare 125)))))))))))
+    (Members.more_members (bare 44) (Str.quoted (chars name_state tt)) (bare 58) (phase_value_lem p.state)
+    (Members.more_members (bare 44) (Str.quoted (chars name_flags_bitmap tt)) (bare 58) (bitmap_value_lem p.flags_bitmap)
+    (Members.more_members (bare 44) (Str.quoted (chars name_abort_flag tt)) (bare 58) (bool_value p.abort_flag)
+    (Members.more_members (bare 44) (Str.quoted (chars name_nack_tx_id tt)) (bare 58) (Value.is_number (number_of p.nack_tx_id))
+    (Members.more_members (bare 44) (Str.quoted (chars name_transaction_data tt)) (bare 58) (data_value_lem p.transaction_data)
+    (Members.more_members (bare 44) (Str.quoted (chars name_sender tt)) (bare 58) (Value.is_number (number_of p.sender))
+    (Members.more_members (bare 44) (Str.quoted (chars name_piggyback_tx tt)) (bare 58) (tx_value_lem p.piggyback_tx)
+    (Members.more_members (bare 44) (Str.quoted (chars name_piggyback_state tt)) (bare 58) (state_value_lem p.piggyback_state)
+    (Members.close_members (bare 125)))))))))))
     Ws.end)
 
-pipeline_short : (p : TwoPcPacket) → ValidPipeline p → length (pipelineText p) ≤ 758
-pipeline_short p v = omega (arith, pipeline_length p, decimal_word p.transaction_id v.id-fits, phase_le p.state, bitmap_short p.flags_bitmap v.bitmap, bool_le p.abort_flag, decimal_word p.nack_tx_id v.nack-fits, data_short p.transaction_data v.bytes, decimal_word p.sender v.sender-fits, tx_short p.piggyback_tx v.tx-fits, state_le p.piggyback_state)
+pipeline_short : (p : TwoPcPacket) → ValidPipeline p → length (pipeline_text p) ≤ 758
+pipeline_short p v = omega (arith, pipeline_length p, decimal_word p.transaction_id v.id_fits, phase_le p.state, bitmap_short p.flags_bitmap v.bitmap, bool_le p.abort_flag, decimal_word p.nack_tx_id v.nack_fits, data_short p.transaction_data v.bytes, decimal_word p.sender v.sender_fits, tx_short p.piggyback_tx v.tx_fits, state_le p.piggyback_state)
 
 pipeline_said : (s : List ℕ) → (pipeline_read_of s).refusal ≡ 0 → Json s (pipeline_value (pipeline_read_of s).packet)
 pipeline_said s h =

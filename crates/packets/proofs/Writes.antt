@@ -15,15 +15,15 @@ use Rattle.texts.specs.Put.{Put, Room}
 use Rattle.texts.specs.Decimal.{decimal}
 use Rattle.texts.specs.Readers.{bool_text}
 use Rattle.packets.specs.Packets.{
-  mostBytes,
+  most_bytes,
   limits,
-  phaseText,
-  bitmapText,
-  dataText,
-  txText,
-  stateText,
-  ceText,
-  pipelineText,
+  phase_text,
+  bitmap_text,
+  data_text,
+  tx_text,
+  state_text,
+  ce_text,
+  pipeline_text,
   ValidBitmap,
   ValidData,
 }
@@ -40,14 +40,14 @@ use Rattle.packets.specs.declared.TwoPcPacket.{TwoPcPacket}
 pub limits_true : (a b : ℕ) → limits a b ≡ true → (a ≤ 64) × (b ≤ 32)
 unfolding limits
 limits_true a b h =
-    let t = and_true (leb a bitmap_entries) (leb b mostBytes) h in
-    (leb-true a bitmap_entries t.0, omega (arith, leb-true b mostBytes t.1))
+    let t = and_true (leb a bitmap_entries) (leb b most_bytes) h in
+    (leb-true a bitmap_entries t.0, omega (arith, leb-true b most_bytes t.1))
 
 pub limits_valid : {b : Bitmap} {d : Data} → ValidBitmap b → ValidData d → limits b.len d.len ≡ true
 unfolding limits
 limits_valid {b} {d} v w =
-    true_and (leb b.len bitmap_entries) (leb d.len mostBytes)
-    (le-leb b.len bitmap_entries v.atMost64) (le-leb d.len mostBytes (omega (arith, w.atMost32)))
+    true_and (leb b.len bitmap_entries) (leb d.len most_bytes)
+    (le-leb b.len bitmap_entries v.at_most64) (le-leb d.len most_bytes (omega (arith, w.at_most32)))
 
 -- within the limits what is measured is the text
 pub measured : (fine : Bool) (t : List ℕ) (r : ℕ) → fine ≡ true → r ≡ text_len fine t → r ≡ length t
@@ -70,12 +70,12 @@ wrote {d} {at} {t} fine e h p = (
   rw (e, le-leb (at + length t) (length d) h.room) p.left,
 )
 
-pub phase_le : (p : TwoPcPhase) → length (phaseText p) ≤ 11
+pub phase_le : (p : TwoPcPhase) → length (phase_text p) ≤ 11
 phase_le Prepare = omega arith
 phase_le Committed = omega arith
 phase_le Aborted = omega arith
 
-pub state_le : (p : PiggybackState) → length (stateText p) ≤ 11
+pub state_le : (p : PiggybackState) → length (state_text p) ≤ 11
 state_le state.Absent = omega arith
 state_le (state.Present p) = phase_le p
 
@@ -83,10 +83,10 @@ pub bool_le : (b : Bool) → length (bool_text b) ≤ 5
 bool_le true = omega arith
 bool_le false = omega arith
 
-pub ce_length : (p : CeTwoPcPacket) → length (ceText p) ≡ 51 + length (decimal p.term) + length (phaseText p.phase) + length (dataText p.proposal_data) + length (bitmapText p.flags_bitmap)
-unfolding ceText
+pub ce_length : (p : CeTwoPcPacket) → length (ce_text p) ≡ 51 + length (decimal p.term) + length (phase_text p.phase) + length (data_text p.proposal_data) + length (bitmap_text p.flags_bitmap)
+unfolding ce_text
 ce_length p = simp length-append (omega arith)
 
-pub pipeline_length : (p : TwoPcPacket) → length (pipelineText p) ≡ 137 + length (decimal p.transaction_id) + length (phaseText p.state) + length (bitmapText p.flags_bitmap) + length (bool_text p.abort_flag) + length (decimal p.nack_tx_id) + length (dataText p.transaction_data) + length (decimal p.sender) + length (txText p.piggyback_tx) + length (stateText p.piggyback_state)
-unfolding pipelineText
+pub pipeline_length : (p : TwoPcPacket) → length (pipeline_text p) ≡ 137 + length (decimal p.transaction_id) + length (phase_text p.state) + length (bitmap_text p.flags_bitmap) + length (bool_text p.abort_flag) + length (decimal p.nack_tx_id) + length (data_text p.transaction_data) + length (decimal p.sender) + length (tx_text p.piggyback_tx) + length (state_text p.piggyback_state)
+unfolding pipeline_text
 pipeline_length p = simp length-append (omega arith)

@@ -9,21 +9,21 @@ use Rattle.texts.specs.Literals.{lit_at}
 use Rattle.texts.specs.Readers.{Found, got, bad, Reader, on, map, behind, both, whole, num_at, bool_at, or_null, list_at}
 use Rattle.texts.specs.Stores.{store_mark, store_byte}
 use Rattle.packets.specs.Packets.{
-  mostBytes,
-  phaseText,
-  keyTerm,
-  keyPhase,
-  keyProposalData,
-  keyFlagsBitmap,
-  keyTransactionId,
-  keyState,
-  keyAbortFlag,
-  keyNackTxId,
-  keyTransactionData,
-  keySender,
-  keyPiggybackTx,
-  keyPiggybackState,
-  keyEnd,
+  most_bytes,
+  phase_text,
+  key_term,
+  key_phase,
+  key_proposal_data,
+  key_flags_bitmap,
+  key_transaction_id,
+  key_state,
+  key_abort_flag,
+  key_nack_tx_id,
+  key_transaction_data,
+  key_sender,
+  key_piggyback_tx,
+  key_piggyback_state,
+  key_end,
 }
 use Rattle.packets.specs.declared.TwoPcPhase.{TwoPcPhase}
 use Rattle.packets.specs.declared.TwoPcPhase.TheVariants.{Prepare, Committed, Aborted}
@@ -56,8 +56,8 @@ use Rattle.packets.specs.declared.read.StateRead.TheVariants as state-read
 -- one of the three names
 unfoldable pub phase_at : Reader TwoPcPhase
 phase_at s at =
-    either (lit_at s at (phaseText Prepare)) (got Prepare (at + 9))
-    (either (lit_at s at (phaseText Committed)) (got Committed (at + 11)) (either (lit_at s at (phaseText Aborted)) (got Aborted (at + 9)) bad))
+    either (lit_at s at (phase_text Prepare)) (got Prepare (at + 9))
+    (either (lit_at s at (phase_text Committed)) (got Committed (at + 11)) (either (lit_at s at (phase_text Aborted)) (got Aborted (at + 9)) bad))
 
 -- an array of at most 64 marks, from which a word of marks is made
 abbrev pub bitmap_of : ℕ × ℕ → Bitmap
@@ -71,7 +71,7 @@ abbrev pub data_of : ℕ × List ℕ → Data
 data_of w = record { len = w.0; bytes = w.1 }
 
 unfoldable pub data_at : Reader Data
-data_at s at = map data_of (list_at (num_at 256) store_byte mostBytes (replicate 32 0) s at)
+data_at s at = map data_of (list_at (num_at 256) store_byte most_bytes (replicate 32 0) s at)
 
 unfoldable pub tx_at : Reader PiggybackTx
 tx_at = or_null tx.Absent (λ s at. map tx.Present (num_at (2 ^ 64) s at))
@@ -81,7 +81,7 @@ state_at = or_null state.Absent (λ s at. map state.Present (phase_at s at))
 
 -- ---- whole packets: the fields in their declared order, each behind its name, then the brace and the end of the text
 unfoldable pub ce_fields : Reader (ℕ × (TwoPcPhase × (Data × Bitmap)))
-ce_fields = both (behind keyTerm (num_at (2 ^ 64))) (both (behind keyPhase phase_at) (both (behind keyProposalData data_at) (behind keyFlagsBitmap bitmap_at)))
+ce_fields = both (behind key_term (num_at (2 ^ 64))) (both (behind key_phase phase_at) (both (behind key_proposal_data data_at) (behind key_flags_bitmap bitmap_at)))
 
 abbrev pub ce_packet : ℕ × (TwoPcPhase × (Data × Bitmap)) → CeTwoPcPacket
 ce_packet w = record { term = w.0; phase = w.1.0; proposal_data = w.1.1.0; flags_bitmap = w.1.1.1 }
@@ -91,14 +91,14 @@ PipelineValues = ℕ × (TwoPcPhase × (Bitmap × (Bool × (ℕ × (Data × (ℕ
 
 unfoldable pub pipeline_fields : Reader PipelineValues
 pipeline_fields =
-    both (behind keyTransactionId (num_at (2 ^ 64)))
-    (both (behind keyState phase_at)
-    (both (behind keyFlagsBitmap bitmap_at)
-    (both (behind keyAbortFlag bool_at)
-    (both (behind keyNackTxId (num_at (2 ^ 64)))
-    (both (behind keyTransactionData data_at)
-    (both (behind keySender (num_at (2 ^ 64)))
-    (both (behind keyPiggybackTx tx_at) (behind keyPiggybackState state_at))))))))
+    both (behind key_transaction_id (num_at (2 ^ 64)))
+    (both (behind key_state phase_at)
+    (both (behind key_flags_bitmap bitmap_at)
+    (both (behind key_abort_flag bool_at)
+    (both (behind key_nack_tx_id (num_at (2 ^ 64)))
+    (both (behind key_transaction_data data_at)
+    (both (behind key_sender (num_at (2 ^ 64)))
+    (both (behind key_piggyback_tx tx_at) (behind key_piggyback_state state_at))))))))
 
 abbrev pub pipeline_packet : PipelineValues → TwoPcPacket
 pipeline_packet w =
@@ -149,10 +149,10 @@ pipeline_yes p = record { refusal = 0; packet = p }
 
 -- refusal 9: any other text
 unfoldable pub ce_read_of : List ℕ → CeRead
-ce_read_of s = on (whole ce_fields keyEnd s) (λ w n. ce_yes (ce_packet w)) (ce_no bad_packet)
+ce_read_of s = on (whole ce_fields key_end s) (λ w n. ce_yes (ce_packet w)) (ce_no bad_packet)
 
 unfoldable pub pipeline_read_of : List ℕ → PipelineRead
-pipeline_read_of s = on (whole pipeline_fields keyEnd s) (λ w n. pipeline_yes (pipeline_packet w)) (pipeline_no bad_packet)
+pipeline_read_of s = on (whole pipeline_fields key_end s) (λ w n. pipeline_yes (pipeline_packet w)) (pipeline_no bad_packet)
 
 -- refusal 10, before 9: the stated length exceeds the buffer. Nothing behind the stated length is read
 unfoldable pub ce_read : List ℕ → ℕ → CeRead

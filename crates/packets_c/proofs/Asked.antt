@@ -18,14 +18,14 @@ use Rattle.packets.specs.Reading.{ce_no, ce_read, pipeline_no, pipeline_read}
 use Rattle.packets.specs.Writing.{wrote_of, left_of}
 use Rattle.packets.proofs.Writes.{limits_true}
 use Rattle.packets_c.specs.Console.{
-  ceTold,
-  pipelineTold,
+  ce_told,
+  pipeline_told,
   handed,
-  sizesFit,
-  ceFits,
-  pipelineFits,
-  askedWrote,
-  askedLeft,
+  sizes_fit,
+  ce_fits,
+  pipeline_fits,
+  asked_wrote,
+  asked_left,
   next_of,
 }
 use Rattle.packets.specs.declared.Wrote.{Wrote}
@@ -48,29 +48,29 @@ pub told_yes : {ρ : ℕ} {vs ds n d : List ℕ} {r : ℕ} {n' : List ℕ} {q : 
 told_yes e p q = (sym e, (handed_put e p, handed_put e q))
 
 module _ (text : List ℕ) (len n b : ℕ) where
-  pub ce_few : n < 5 → no_fit ≡ (ceTold text len n b).refusal
-  unfolding ceTold ce_no
+  pub ce_few : n < 5 → no_fit ≡ (ce_told text len n b).refusal
+  unfolding ce_told ce_no
   ce_few h = rw (lt-leb 5 n h)
 
-  pub ce_short_bytes : 5 ≤ n → b < 32 → no_fit ≡ (ceTold text len n b).refusal
-  unfolding ceTold ce_no
+  pub ce_short_bytes : 5 ≤ n → b < 32 → no_fit ≡ (ce_told text len n b).refusal
+  unfolding ce_told ce_no
   ce_short_bytes h k = rw (le-leb 5 n h, lt-leb 32 b k)
 
-  pub ce_as_read : 5 ≤ n → 32 ≤ b → ce_read text len ≡ ceTold text len n b
-  unfolding ceTold
+  pub ce_as_read : 5 ≤ n → 32 ≤ b → ce_read text len ≡ ce_told text len n b
+  unfolding ce_told
   ce_as_read h k = rw (le-leb 5 n h, le-leb 32 b k)
 
 module _ (text : List ℕ) (len n b : ℕ) where
-  pub pipeline_few : n < 12 → no_fit ≡ (pipelineTold text len n b).refusal
-  unfolding pipelineTold pipeline_no
+  pub pipeline_few : n < 12 → no_fit ≡ (pipeline_told text len n b).refusal
+  unfolding pipeline_told pipeline_no
   pipeline_few h = rw (lt-leb 12 n h)
 
-  pub pipeline_short_bytes : 12 ≤ n → b < 32 → no_fit ≡ (pipelineTold text len n b).refusal
-  unfolding pipelineTold pipeline_no
+  pub pipeline_short_bytes : 12 ≤ n → b < 32 → no_fit ≡ (pipeline_told text len n b).refusal
+  unfolding pipeline_told pipeline_no
   pipeline_short_bytes h k = rw (le-leb 12 n h, lt-leb 32 b k)
 
-  pub pipeline_as_read : 12 ≤ n → 32 ≤ b → pipeline_read text len ≡ pipelineTold text len n b
-  unfolding pipelineTold
+  pub pipeline_as_read : 12 ≤ n → 32 ≤ b → pipeline_read text len ≡ pipeline_told text len n b
+  unfolding pipeline_told
   pipeline_as_read h k = rw (le-leb 12 n h, le-leb 32 b k)
 
 -- ---- texts and sizes
@@ -85,42 +85,42 @@ pub all_fit : (entries marks : ℕ) → 64 ≤ entries → marks < 2 ^ 64 → tr
 all_fit entries marks h k = sym (lt-ltb marks (2 ^ entries) (omega (arith, pow_mono h)))
 
 -- so much data is asked for at most
-pub ce_small : (m : List ℕ) → ceFits m ≡ true → get_or m 2 0 ≤ 32
-unfolding ceFits
+pub ce_small : (m : List ℕ) → ce_fits m ≡ true → get_or m 2 0 ≤ 32
+unfolding ce_fits
 ce_small m h =
     let a = and_true (leb (get_or m 1 0) 2) _ h in
     (limits_true (get_or m 3 0) (get_or m 2 0) (and_true (limits (get_or m 3 0) (get_or m 2 0)) _ a.1).0).1
 
-pub pipeline_small : (m : List ℕ) → pipelineFits m ≡ true → get_or m 6 0 ≤ 32
-unfolding pipelineFits
+pub pipeline_small : (m : List ℕ) → pipeline_fits m ≡ true → get_or m 6 0 ≤ 32
+unfolding pipeline_fits
 pipeline_small m h =
     let a = and_true (leb (get_or m 1 0) 2) _ h in
     let b = and_true (leb (get_or m 4 0) 1) _ a.1 in
-    let c = and_true (sizesFit (get_or m 2 0) (get_or m 6 0) (get_or m 3 0)) _ b.1 in
+    let c = and_true (sizes_fit (get_or m 2 0) (get_or m 6 0) (get_or m 3 0)) _ b.1 in
     (limits_true (get_or m 2 0) (get_or m 6 0) (and_true (limits (get_or m 2 0) (get_or m 6 0)) _ c.0).0).1
 
 -- what a write answers and leaves: the numbers ask for no packet, the writer refuses it, or it is written
 module _ (fine : Bool) (t d : List ℕ) (at k old : ℕ) where
   pub write_no : (k ≡ 0 → ⊥)
-      → (k ≡ (askedWrote k fine t d at).refusal) × ((d ≡ askedLeft k fine t d at) × (old ≡ next_of (askedWrote k fine t d at) old))
-  unfolding askedWrote askedLeft next_of
+      → (k ≡ (asked_wrote k fine t d at).refusal) × ((d ≡ asked_left k fine t d at) × (old ≡ next_of (asked_wrote k fine t d at) old))
+  unfolding asked_wrote asked_left next_of
   write_no h = (rw (ne_eqb k 0 h), (rw (ne_eqb k 0 h), rw (ne_eqb k 0 h, ne_eqb k 0 h)))
 
   module _ {w : Wrote} {d' : List ℕ} (e : k ≡ 0) (f : w ≡ wrote_of fine t d at) (g : d' ≡ left_of fine t d at) where
-    same : w ≡ askedWrote k fine t d at
-    unfolding askedWrote
+    same : w ≡ asked_wrote k fine t d at
+    unfolding asked_wrote
     same = rw (eq-eqb k 0 e) f
 
-    left : d' ≡ askedLeft k fine t d at
-    unfolding askedLeft
+    left : d' ≡ asked_left k fine t d at
+    unfolding asked_left
     left = rw (eq-eqb k 0 e) g
 
     pub write_refused : (w.refusal ≡ 0 → ⊥)
-        → (w.refusal ≡ (askedWrote k fine t d at).refusal) × ((d' ≡ askedLeft k fine t d at) × (old ≡ next_of (askedWrote k fine t d at) old))
+        → (w.refusal ≡ (asked_wrote k fine t d at).refusal) × ((d' ≡ asked_left k fine t d at) × (old ≡ next_of (asked_wrote k fine t d at) old))
     unfolding next_of
     write_refused h = (ap (λ (x : Wrote). x.refusal) same, (left, rw (← same, ne_eqb w.refusal 0 h)))
 
     pub write_yes : w.refusal ≡ 0
-        → (0 ≡ (askedWrote k fine t d at).refusal) × ((d' ≡ askedLeft k fine t d at) × (w.next ≡ next_of (askedWrote k fine t d at) old))
+        → (0 ≡ (asked_wrote k fine t d at).refusal) × ((d' ≡ asked_left k fine t d at) × (w.next ≡ next_of (asked_wrote k fine t d at) old))
     unfolding next_of
     write_yes h = (sym h ∙ ap (λ (x : Wrote). x.refusal) same, (left, rw (← same, eq-eqb w.refusal 0 h)))

@@ -16,11 +16,11 @@ use Rattle.packets_c.specs.Desk.{desk_of, proposed_of}
 use Rattle.packets_c.specs.Late.{
   Place,
   emptied,
-  noPlace,
+  no_place,
   Moment,
   opening,
   History,
-  placeAt,
+  place_at,
   proposed,
   proposing,
   merging,
@@ -34,12 +34,12 @@ use Rattle.merges.proofs.Safety.{either_cases, merges_sound, proposes_sound, nev
 use Rattle.loops.specs.Stores.{set_all}
 use Rattle.packets_c.proofs.Desks.{refused_leaves}
 use Rattle.packets_c.proofs.Texting.{
-  texts-follow,
-  proposal-follows,
-  copy-reads,
-  may-propose,
-  accepted-proposal,
-  accepted-merge,
+  texts_follow,
+  proposal_follows,
+  copy_reads,
+  may_propose,
+  accepted_proposal,
+  accepted_merge,
 }
 
 module _ (s : Voting) where
@@ -47,7 +47,7 @@ module _ (s : Voting) where
   SoundPlace x = SoundHeld (no_of s) s.n (read_of x)
 
   abbrev SoundAll : List Place → Type 0
-  SoundAll l = (u : ℕ) → SoundPlace (get_or l u noPlace)
+  SoundAll l = (u : ℕ) → SoundPlace (get_or l u no_place)
 
   empty_sound : (b : List ℕ) → SoundPlace (emptied b)
   unfolding payload_of
@@ -66,8 +66,8 @@ module _ (s : Voting) where
   -- ---- one event
   proposal_sound : (v t : ℕ) (l : Place) → (proposed_of s v t l.buffer).refusal ≡ 0 → SoundPlace (proposed s v t l)
   proposal_sound v t l k =
-      subst (SoundHeld (no_of s) s.n) (sym (proposal-follows s v t l.buffer k))
-      (proposes_sound (no_of s) s.n v t (may-propose s.n v t (accepted-proposal s v t l.buffer k)).1)
+      subst (SoundHeld (no_of s) s.n) (sym (proposal_follows s v t l.buffer k))
+      (proposes_sound (no_of s) s.n v t (may_propose s.n v t (accepted_proposal s v t l.buffer k)).1)
 
   module _ (v : ℕ) (l r : Place) (p : SoundPlace l) (q : SoundPlace r) where
     abbrev copy : List ℕ
@@ -77,13 +77,13 @@ module _ (s : Voting) where
     refusal = (desk_of s v l.buffer l.len copy r.len 0).refusal
 
     copy_sound : SoundHeld (no_of s) s.n (payload_of copy r.len)
-    copy_sound = subst (SoundHeld (no_of s) s.n) (sym (copy-reads r.buffer r.len)) q
+    copy_sound = subst (SoundHeld (no_of s) s.n) (sym (copy_reads r.buffer r.len)) q
 
     taken_sound : refusal ≡ 0 → SoundPlace (merging s v l r)
     taken_sound k =
-        subst (SoundHeld (no_of s) s.n) (sym (texts-follow s v l.buffer l.len copy r.len 0 k))
+        subst (SoundHeld (no_of s) s.n) (sym (texts_follow s v l.buffer l.len copy r.len 0 k))
         (merges_sound (no_of s) s.n v (read_of l) (payload_of copy r.len)
-        (accepted-merge s v l.buffer l.len copy r.len 0 k) p copy_sound)
+        (accepted_merge s v l.buffer l.len copy r.len 0 k) p copy_sound)
 
     left_sound : (refusal ≡ 0 → ⊥) → SoundPlace (merging s v l r)
     left_sound k =
@@ -105,15 +105,15 @@ module _ (s : Voting) where
       → SoundAll (happened s e h a).places
   unfolding happened
   happened_sound (Propose v) h a p q =
-      let l = get_or a.places v noPlace in
+      let l = get_or a.places v no_place in
       let none = (proposed_of s v a.term l.buffer).refusal in
       either_cases (λ (b : Moment). SoundAll b.places) (eqb none 0)
-      (λ e. set_all SoundPlace noPlace (map (λ (x : Place). emptied x.buffer) a.places) v (proposed s v a.term l)
+      (λ e. set_all SoundPlace no_place (map (λ (x : Place). emptied x.buffer) a.places) v (proposed s v a.term l)
       (emptied_sound a.places) (proposal_sound v a.term l (eqb-true none 0 e)))
       (λ e. q)
   happened_sound (Deliver v m u) h a p q =
-      set_all SoundPlace noPlace a.places v (merging s v (get_or a.places v noPlace) (placeAt h m u)) q
-      (merging_sound v (get_or a.places v noPlace) (placeAt h m u) (q v) (p m u))
+      set_all SoundPlace no_place a.places v (merging s v (get_or a.places v no_place) (place_at h m u)) q
+      (merging_sound v (get_or a.places v no_place) (place_at h m u) (q v) (p m u))
 
   past_more : (a : Moment) (h : History) → SoundAll a.places → Past h → Past (a ∷ h)
   past_more a h q p zero = q

@@ -26,20 +26,20 @@ use Rattle.packets.specs.declared.PiggybackState.{PiggybackState}
 use Rattle.packets.specs.declared.PiggybackState.TheVariants as state
 use Rattle.packets.proofs.Writes.{limits_true, limits_valid}
 use Rattle.packets_c.specs.Console.{
-  phaseNumber,
-  phaseNumbered,
-  txThere,
-  txNumber,
-  txNumbered,
-  stateThere,
-  stateNumber,
-  stateNumbered,
-  dataAsked,
-  sizesFit,
-  ceFits,
-  pairFits,
-  piggybackFits,
-  pipelineFits,
+  phase_number,
+  phase_numbered,
+  tx_there,
+  tx_number,
+  tx_numbered,
+  state_there,
+  state_number,
+  state_numbered,
+  data_asked,
+  sizes_fit,
+  ce_fits,
+  pair_fits,
+  piggyback_fits,
+  pipeline_fits,
 }
 use Rattle.packets_c.proofs.Asked.{taken_back}
 
@@ -65,18 +65,18 @@ pick zero i m h = refl
 pick (suc k) i m h = rw (drop-cons m i 0 (omega arith)) (ap (get_or m i 0 ∷◌) (pick k (suc i) m (omega arith)))
 
 -- ---- numbers that fit are those of what they ask for, and the other way round
-pub phase_back : (n : ℕ) → n ≤ 2 → phaseNumber (phaseNumbered n) ≡ n
+pub phase_back : (n : ℕ) → n ≤ 2 → phase_number (phase_numbered n) ≡ n
 phase_back zero h = refl
 phase_back (suc zero) h = refl
 phase_back (suc (suc zero)) h = refl
 phase_back (suc (suc (suc n))) h = absurd (omega arith)
 
-pub phase_again : (p : TwoPcPhase) → phaseNumbered (phaseNumber p) ≡ p
+pub phase_again : (p : TwoPcPhase) → phase_numbered (phase_number p) ≡ p
 phase_again Prepare = refl
 phase_again Committed = refl
 phase_again Aborted = refl
 
-pub phase_small : (p : TwoPcPhase) → phaseNumber p ≤ 2
+pub phase_small : (p : TwoPcPhase) → phase_number p ≤ 2
 phase_small Prepare = omega arith
 phase_small Committed = omega arith
 phase_small Aborted = omega arith
@@ -91,62 +91,62 @@ flag_again true = refl
 flag_again false = refl
 
 -- what may be absent: there, or not there and 0
-pair_cases : (there n : ℕ) → pairFits there n ≡ true → (there ≡ 1) ⊎ ((there ≡ 0) × (n ≡ 0))
+pair_cases : (there n : ℕ) → pair_fits there n ≡ true → (there ≡ 1) ⊎ ((there ≡ 0) × (n ≡ 0))
 pair_cases zero n h = inr (refl, eqb-true n 0 h)
 pair_cases (suc zero) n h = inl refl
 pair_cases (suc (suc there)) n h =
     let l = leb-true (suc (suc there)) 1 (and_true (leb (suc (suc there)) 1) _ h).0 in
     absurd (omega arith)
 
-pub tx_back : (there n : ℕ) → pairFits there n ≡ true
-    → (txThere (txNumbered there n) ≡ there) × (txNumber (txNumbered there n) ≡ n)
+pub tx_back : (there n : ℕ) → pair_fits there n ≡ true
+    → (tx_there (tx_numbered there n) ≡ there) × (tx_number (tx_numbered there n) ≡ n)
 tx_back there n h =
     ⊎_elim (λ e. (rw e, rw e)) (λ w. (rw w.0, rw w.0 (sym w.1))) (pair_cases there n h)
 
-pub tx_again : (p : PiggybackTx) → txNumbered (txThere p) (txNumber p) ≡ p
+pub tx_again : (p : PiggybackTx) → tx_numbered (tx_there p) (tx_number p) ≡ p
 tx_again tx.Absent = refl
 tx_again (tx.Present n) = refl
 
-pub tx_fits : (p : PiggybackTx) → pairFits (txThere p) (txNumber p) ≡ true
+pub tx_fits : (p : PiggybackTx) → pair_fits (tx_there p) (tx_number p) ≡ true
 tx_fits tx.Absent = refl
 tx_fits (tx.Present n) = refl
 
-pub tx_valid : (there n : ℕ) → n < 2 ^ 64 → ValidTx (txNumbered there n)
+pub tx_valid : (there n : ℕ) → n < 2 ^ 64 → ValidTx (tx_numbered there n)
 tx_valid there n h = go (eqb there 0)
   where
     go : (b : Bool) → ValidTx (either b tx.Absent (tx.Present n))
     go true = tt
     go false = h
 
-pub state_back : (there n : ℕ) → pairFits there n ≡ true → n ≤ 2
-    → (stateThere (stateNumbered there n) ≡ there) × (stateNumber (stateNumbered there n) ≡ n)
+pub state_back : (there n : ℕ) → pair_fits there n ≡ true → n ≤ 2
+    → (state_there (state_numbered there n) ≡ there) × (state_number (state_numbered there n) ≡ n)
 state_back there n h l =
     ⊎_elim (λ e. (rw e, rw e (phase_back n l))) (λ w. (rw w.0, rw w.0 (sym w.1))) (pair_cases there n h)
 
-pub state_again : (p : PiggybackState) → stateNumbered (stateThere p) (stateNumber p) ≡ p
+pub state_again : (p : PiggybackState) → state_numbered (state_there p) (state_number p) ≡ p
 state_again state.Absent = refl
 state_again (state.Present p) = ap state.Present (phase_again p)
 
-pub state_fits : (p : PiggybackState) → pairFits (stateThere p) (stateNumber p) ≡ true
+pub state_fits : (p : PiggybackState) → pair_fits (state_there p) (state_number p) ≡ true
 state_fits state.Absent = refl
 state_fits (state.Present p) = refl
 
-pub state_small : (p : PiggybackState) → stateNumber p ≤ 2
+pub state_small : (p : PiggybackState) → state_number p ≤ 2
 state_small state.Absent = omega arith
 state_small (state.Present p) = phase_small p
 
-pub piggyback_fit : (a n b phase : ℕ) → piggybackFits a n b phase ≡ true
-    → (pairFits a n ≡ true) × (pairFits b phase ≡ true) × (phase ≤ 2)
+pub piggyback_fit : (a n b phase : ℕ) → piggyback_fits a n b phase ≡ true
+    → (pair_fits a n ≡ true) × (pair_fits b phase ≡ true) × (phase ≤ 2)
 piggyback_fit a n b phase h =
-    let x = and_true (pairFits a n) (pairFits b phase && leb phase 2) h in
-    let y = and_true (pairFits b phase) (leb phase 2) x.1 in
+    let x = and_true (pair_fits a n) (pair_fits b phase && leb phase 2) h in
+    let y = and_true (pair_fits b phase) (leb phase 2) x.1 in
     (x.0, y.0, leb-true phase 2 y.1)
 
-pub piggyback_fits : (t : PiggybackTx) (s : PiggybackState)
-    → piggybackFits (txThere t) (txNumber t) (stateThere s) (stateNumber s) ≡ true
-piggyback_fits t s =
-    true_and (pairFits (txThere t) (txNumber t)) _ (tx_fits t)
-    (true_and (pairFits (stateThere s) (stateNumber s)) _ (state_fits s) (le-leb _ 2 (state_small s)))
+pub piggyback_fits_lem : (t : PiggybackTx) (s : PiggybackState)
+    → piggyback_fits (tx_there t) (tx_number t) (state_there s) (state_number s) ≡ true
+piggyback_fits_lem t s =
+    true_and (pair_fits (tx_there t) (tx_number t)) _ (tx_fits t)
+    (true_and (pair_fits (state_there s) (state_number s)) _ (state_fits s) (le-leb _ 2 (state_small s)))
 
 -- ---- what the tests say of numbers that pass them
 pub record Sized (entries bytes marks : ℕ) : Type 0 where
@@ -163,8 +163,8 @@ pub record CeFit (m : List ℕ) : Type 0 where
   pub phase : get_or m 1 0 ≤ 2
   pub sizes : Sized (get_or m 3 0) (get_or m 2 0) (get_or m 4 0)
 
-pub ce_fit : (m : List ℕ) → ceFits m ≡ true → CeFit m
-unfolding ceFits
+pub ce_fit : (m : List ℕ) → ce_fits m ≡ true → CeFit m
+unfolding ce_fits
 ce_fit m h =
     let a = and_true (leb (get_or m 1 0) 2) _ h in
     let b = and_true (limits (get_or m 3 0) (get_or m 2 0)) _ a.1 in
@@ -178,14 +178,14 @@ pub record PipelineFit (m : List ℕ) : Type 0 where
   pub state : get_or m 1 0 ≤ 2
   pub abort : get_or m 4 0 ≤ 1
   pub sizes : Sized (get_or m 2 0) (get_or m 6 0) (get_or m 3 0)
-  pub piggyback : piggybackFits (get_or m 8 0) (get_or m 9 0) (get_or m 10 0) (get_or m 11 0) ≡ true
+  pub piggyback : piggyback_fits (get_or m 8 0) (get_or m 9 0) (get_or m 10 0) (get_or m 11 0) ≡ true
 
-pub pipeline_fit : (m : List ℕ) → pipelineFits m ≡ true → PipelineFit m
-unfolding pipelineFits
+pub pipeline_fit : (m : List ℕ) → pipeline_fits m ≡ true → PipelineFit m
+unfolding pipeline_fits
 pipeline_fit m h =
     let a = and_true (leb (get_or m 1 0) 2) _ h in
     let b = and_true (leb (get_or m 4 0) 1) _ a.1 in
-    let c = and_true (sizesFit (get_or m 2 0) (get_or m 6 0) (get_or m 3 0)) _ b.1 in
+    let c = and_true (sizes_fit (get_or m 2 0) (get_or m 6 0) (get_or m 3 0)) _ b.1 in
     let d = and_true (limits (get_or m 2 0) (get_or m 6 0)) _ c.0 in
     record {
       state = leb-true _ 2 a.0;
@@ -197,29 +197,29 @@ pipeline_fit m h =
 
 -- ---- data that is asked for is valid, and valid data is the data that it asks for
 pub data_valid : (bytes : List ℕ) (n : ℕ) → n ≤ 32 → n ≤ length bytes → Every (λ x. x < 256) bytes
-    → ValidData (dataAsked bytes n)
+    → ValidData (data_asked bytes n)
 data_valid bytes n h k s =
     let e : take n (written (replicate 32 0) 0 (take n bytes)) ≡ take n bytes
     = ap (λ (j : ℕ). take j (written (replicate 32 0) 0 (take n bytes))) (sym (length-take-le n bytes k))
     ∙ taken_back (replicate 32 0) (take n bytes) in
     record {
-      atMost32 = h;
+      at_most32 = h;
       small = rw e (every_take n bytes s);
       zeros = ap (written (replicate 32 0) 0) (sym e);
     }
 
-pub data_again : (d : Data) → ValidData d → dataAsked d.bytes d.len ≡ d
+pub data_again : (d : Data) → ValidData d → data_asked d.bytes d.len ≡ d
 data_again d v = ap (λ (x : List ℕ). record { len = d.len; bytes = x }) (sym v.zeros)
 
 pub data_room : (d : Data) → ValidData d → d.len ≤ length d.bytes
 data_room d v =
     let t = take d.len d.bytes in
-    let k : 0 + length t ≤ 32 = omega (arith, length-take d.len d.bytes, v.atMost32) in
+    let k : 0 + length t ≤ 32 = omega (arith, length-take d.len d.bytes, v.at_most32) in
     let e : length d.bytes ≡ 32 = ap length v.zeros ∙ length_written (replicate 32 0) 0 t k in
-    omega (arith, v.atMost32)
+    omega (arith, v.at_most32)
 
 -- the sizes of a valid packet fit
-pub sizes_fit : {b : Bitmap} {d : Data} → ValidBitmap b → ValidData d → sizesFit b.len d.len b.marks ≡ true
-sizes_fit {b} {d} v w =
+pub sizes_fit_lem : {b : Bitmap} {d : Data} → ValidBitmap b → ValidData d → sizes_fit b.len d.len b.marks ≡ true
+sizes_fit_lem {b} {d} v w =
     true_and (limits b.len d.len) (ltb b.marks (2 ^ b.len)) (limits_valid v w)
-    (lt-ltb b.marks (2 ^ b.len) v.marks-lt)
+    (lt-ltb b.marks (2 ^ b.len) v.marks_lt)

@@ -9,14 +9,14 @@ use Rattle.packets.specs.declared.Wrote.{Wrote}
 use Rattle.packets.specs.declared.CeRead.{CeRead}
 use Rattle.packets.specs.declared.PipelineRead.{PipelineRead}
 use Rattle.packets_c.specs.Console.{
-  ceNumbers,
-  pipelineNumbers,
-  ceTold,
-  pipelineTold,
-  ceWrote,
-  ceLeft,
-  pipelineWrote,
-  pipelineLeft,
+  ce_numbers,
+  pipeline_numbers,
+  ce_told,
+  pipeline_told,
+  ce_wrote,
+  ce_left,
+  pipeline_wrote,
+  pipeline_left,
 }
 
 -- The two entries of a family: what reading answers, with the numbers and the bytes that it hands out; what writing
@@ -37,11 +37,11 @@ ce_entries =
     record {
       Answer = CeRead;
       refusal = λ r. r.refusal;
-      numbers = λ r. ceNumbers r.packet;
+      numbers = λ r. ce_numbers r.packet;
       bytes = λ r. r.packet.proposal_data.bytes;
-      told = ceTold;
-      wrote = λ m bytes d at. ceWrote m bytes d at;
-      left = λ m bytes d at. ceLeft m bytes d at;
+      told = ce_told;
+      wrote = λ m bytes d at. ce_wrote m bytes d at;
+      left = λ m bytes d at. ce_left m bytes d at;
       count = 5;
       length_at = 2;
     }
@@ -51,11 +51,11 @@ pipeline_entries =
     record {
       Answer = PipelineRead;
       refusal = λ r. r.refusal;
-      numbers = λ r. pipelineNumbers r.packet;
+      numbers = λ r. pipeline_numbers r.packet;
       bytes = λ r. r.packet.transaction_data.bytes;
-      told = pipelineTold;
-      wrote = λ m bytes d at. pipelineWrote m bytes d at;
-      left = λ m bytes d at. pipelineLeft m bytes d at;
+      told = pipeline_told;
+      wrote = λ m bytes d at. pipeline_wrote m bytes d at;
+      left = λ m bytes d at. pipeline_left m bytes d at;
       count = 12;
       length_at = 6;
     }

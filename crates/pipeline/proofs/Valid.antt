@@ -71,16 +71,16 @@ data_valid fresh t =
     either_cases ValidData fresh
     (λ e. either_cases ValidData (ltb t 10)
     (λ f. record {
-      atMost32 = omega arith;
+      at_most32 = omega arith;
       small = more (omega arith) (more (omega arith) (more (omega arith) none));
       zeros = refl;
     })
     (λ f. record {
-      atMost32 = omega arith;
+      at_most32 = omega arith;
       small = more (omega arith) (more (omega arith) (more (omega arith) (more (omega arith) none)));
       zeros = refl;
     }))
-    (λ e. record { atMost32 = omega arith; small = none; zeros = refl })
+    (λ e. record { at_most32 = omega arith; small = none; zeros = refl })
 
 -- ---- what is asked for
 
@@ -203,10 +203,10 @@ module _ (n : ℕ) (small : n ≤ 64) where
   unfolding packet_of
   valid_by q t b k i p =
       record {
-        id-fits = omega arith;
+        id_fits = omega arith;
         nack_fits = omega arith;
-        sender-fits = omega arith;
-        tx-fits = p;
+        sender_fits = omega arith;
+        tx_fits = p;
         bytes = data_valid q.fresh q.tx;
         bitmap = record { at_most64 = small; marks_lt = b };
       }

@@ -40,7 +40,7 @@ use Rattle.readings.specs.Calls.{
   log_entry,
   pending,
   «record»,
-  aRatio,
+  a_ratio,
   answer_of,
 }
 use Rattle.readings.specs.Readings.{of_pipeline, pending_in, pending_of}
@@ -95,7 +95,7 @@ pub record Few (s : Said) : Type 0 where
 few : {k : ℕ} {xs : List ℕ} → length xs ≤ 39 → Few (plain k xs)
 few h = record { numbers = h; floats = omega arith }
 
-few_ratio : (x : Ratio) → Few (said (aRatio x))
+few_ratio : (x : Ratio) → Few (said (a_ratio x))
 unfolding said
 few_ratio None = record { numbers = omega arith; floats = omega arith }
 few_ratio (Some x) = record { numbers = omega arith; floats = omega arith }

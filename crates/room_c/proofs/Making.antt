@@ -12,16 +12,16 @@ use Rattle.room.specs.declared.room.RoundAnswer.{RoundAnswer}
 use Rattle.demand.specs.Calls.{Propose, handed}
 use Rattle.room_c.specs.Answers.{told_in}
 use Rattle.room_c.specs.Console.{
-  wholeSaid,
-  partSaid,
-  callTable,
+  whole_said,
+  part_said,
+  call_table,
   Calling,
   call_by,
-  roundSaid,
-  callSaid,
-  rowsLeft,
-  numbersEach,
-  floatsEach,
+  round_said,
+  call_said,
+  rows_left,
+  numbers_each,
+  floats_each,
   untold,
   called,
   call_of,
@@ -34,40 +34,40 @@ module _ (ws : List ℕ) (i which a b c : ℕ) (w : Calling) where
       record { rows = rows; told = told; floats = floats; text = text; room = r } ≡ call_of ws i which a b c w
 
   pub proposed : {told : List ℕ} {r : Room} → which ≡ 1 → r ≡ handed (Propose a) w.room
-      → told ≡ sets w.told (i * numbersEach) (told_in (callSaid (Propose a) w.room))
+      → told ≡ sets w.told (i * numbers_each) (told_in (call_said (Propose a) w.room))
       → Left w.rows told w.floats w.text r
-  unfolding called call_by callTable rowsLeft callSaid
+  unfolding called call_by call_table rows_left call_said
   proposed e h t = rw (e, h, t)
 
   -- a round's answer
   abbrev Round : RoundAnswer → List ℕ → List ℕ → Room → Type 0
-  Round x rows told r = (r ≡ x.room) × (told ≡ sets w.told (i * numbersEach) (told_in (roundSaid x)))
+  Round x rows told r = (r ≡ x.room) × (told ≡ sets w.told (i * numbers_each) (told_in (round_said x)))
 
   pub captured : {x : RoundAnswer} {rows told : List ℕ} {r : Room} → which ≡ 2
       → x ≡ capture_of ws (length w.rows) c w.room b → rows ≡ capture_buffer ws w.rows c w.room b
       → Round x rows told r → Left rows told w.floats w.text r
-  unfolding called call_by callTable rowsLeft callSaid handed
+  unfolding called call_by call_table rows_left call_said handed
   captured e x h t = rw (e, h, t.0, t.1, x)
 
   pub piped : {x : RoundAnswer} {rows told : List ℕ} {r : Room} → which ≡ 3
       → x ≡ pipeline_of ws (length w.rows) c w.room b → rows ≡ pipeline_buffer ws w.rows c w.room b
       → Round x rows told r → Left rows told w.floats w.text r
-  unfolding called call_by callTable rowsLeft callSaid handed
+  unfolding called call_by call_table rows_left call_said handed
   piped e x h t = rw (e, h, t.0, t.1, x)
 
   pub whole_read : {told : List ℕ} {floats : List Float} → 4 ≤ which → which < 18
-      → (told ≡ sets w.told (i * numbersEach) (told_in (wholeSaid which w.room)))
-      × (floats ≡ sets w.floats (i * floatsEach) (wholeSaid which w.room).floats)
+      → (told ≡ sets w.told (i * numbers_each) (told_in (whole_said which w.room)))
+      × (floats ≡ sets w.floats (i * floats_each) (whole_said which w.room).floats)
       → Left w.rows told floats w.text w.room
-  unfolding called call_by rowsLeft callSaid handed
+  unfolding called call_by rows_left call_said handed
   whole_read h g t =
       rw (whole_call ws w.rows w.text a b c which h g, t.0, t.1, whole_text (which - 4) w.room w.text)
 
   pub part_read : {told text : List ℕ} → 18 ≤ which → which < 24
-      → (told ≡ sets w.told (i * numbersEach) (told_in (partSaid w.text a b which w.room)))
-      × (text ≡ (partSaid w.text a b which w.room).text w.text)
+      → (told ≡ sets w.told (i * numbers_each) (told_in (part_said w.text a b which w.room)))
+      × (text ≡ (part_said w.text a b which w.room).text w.text)
       → Left w.rows told w.floats text w.room
-  unfolding called call_by rowsLeft callSaid handed
+  unfolding called call_by rows_left call_said handed
   part_read h g t =
       rw (
         part_call ws w.rows w.text a b c which h g,

@@ -36,13 +36,13 @@ use Rattle.demand.specs.Rounds.{round_in, rounds_in}
 use Rattle.demand.proofs.Demand.{demand3}
 use Rattle.room_c.specs.Rounds.{
   Turn,
-  nextCall,
-  nextTurn,
-  roundCalls,
+  next_call,
+  next_turn,
+  round_calls,
   is_over,
-  lastTurn,
+  last_turn,
   fixed_of,
-  roomOf,
+  room_of,
   turn_of,
   ahead,
   RoundsByCalls,
@@ -92,8 +92,8 @@ module _ (conf : PipelineConf) where
     rows_same = rw (early_same w.slot p.stop) (decide (eqb early 0) (λ e. rw e) (λ e. rw (e, e)))
 
   turn_same : (ws : List ℕ) (c : CapturePart) (w : Playing)
-      → nextTurn ws (turn_of conf c w) ≡ turn_of conf c (play_round ws conf w)
-  unfolding nextTurn pipeline_of play_round noted
+      → next_turn ws (turn_of conf c w) ≡ turn_of conf c (play_round ws conf w)
+  unfolding next_turn pipeline_of play_round noted
   turn_same ws c w =
       let t = w.played in
       rw (
@@ -113,18 +113,18 @@ module _ {S T : Type 0} (stop : S → Bool) (step : S → S) (over : T → Bool)
 
 -- the room that a list of calls leaves is the one that the last of them answers
 abbrev Leads : List ℕ → ℕ → Turn → Type 0
-Leads ws k t = after (roundCalls ws k t) t.answer.room ≡ (lastTurn ws k t).answer.room
+Leads ws k t = after (round_calls ws k t) t.answer.room ≡ (last_turn ws k t).answer.room
 
 room_after : (ws : List ℕ) (k : ℕ) (t : Turn) → Leads ws k t
-unfolding roundCalls lastTurn after handed nextTurn go
+unfolding round_calls last_turn after handed next_turn go
 room_after ws zero t = refl
-room_after ws (suc k) t = by (room_after ws k (nextTurn ws t)) (eqb t.answer.refusal 0)
+room_after ws (suc k) t = by (room_after ws k (next_turn ws t)) (eqb t.answer.refusal 0)
   where
     Same : List Call → Bool → Type 0
-    Same cs b = after cs t.answer.room ≡ (go is_over (nextTurn ws) (suc k) b t).answer.room
+    Same cs b = after cs t.answer.room ≡ (go is_over (next_turn ws) (suc k) b t).answer.room
 
-    by : Leads ws k (nextTurn ws t) → (b : Bool)
-        → Same (either b (nextCall ws t ∷ roundCalls ws k (nextTurn ws t)) []) (not b)
+    by : Leads ws k (next_turn ws t) → (b : Bool)
+        → Same (either b (next_call ws t ∷ round_calls ws k (next_turn ws t)) []) (not b)
     by h true = h
     by h false = refl
 
@@ -149,13 +149,13 @@ count_fits count refusal h =
 module _ (ws : List ℕ) (conf : PipelineConf) (c : CapturePart) where
   -- those of the calls of k rounds
   abbrev accepted : ℕ → Turn → ℕ
-  accepted k t = rounds_in (roundCalls ws k t) t.answer.room
+  accepted k t = rounds_in (round_calls ws k t) t.answer.room
 
   abbrev Counts : ℕ → Playing → Type 0
   Counts k w = (play_rounds ws conf k w).played.count ≡ add64 w.played.count (accepted k (turn_of conf c w))
 
   counted : (k : ℕ) (w : Playing) → w.played.count < 2 ^ 64 → Counts k w
-  unfolding play_rounds play_round noted roundCalls rounds_in round_in handed nextTurn go
+  unfolding play_rounds play_round noted round_calls rounds_in round_in handed next_turn go
   counted zero w h = none_counted h
   counted (suc k) w h =
       by (counted k v (count_fits w.played.count v.played.refusal h)) (eqb w.played.refusal 0)
@@ -170,7 +170,7 @@ module _ (ws : List ℕ) (conf : PipelineConf) (c : CapturePart) where
       Told m b = (go is_refused (play_round ws conf) (suc k) b w).played.count ≡ add64 w.played.count m
 
       by : Counts k v → (b : Bool)
-          → Told (rounds_in (either b (nextCall ws t ∷ roundCalls ws k (nextTurn ws t)) []) t.answer.room) (not b)
+          → Told (rounds_in (either b (next_call ws t ∷ round_calls ws k (next_turn ws t)) []) t.answer.room) (not b)
       by e true =
           subst (λ (u : Turn). Told (either (eqb u.answer.refusal 0) 1 0 + accepted k u) false)
           (sym (turn_same conf ws c w))
@@ -187,7 +187,7 @@ accepted_room a z =
     (λ o. absurd (eqb-false (open_refusal a) 0 o (rw o at z)))
 
 opened_room : (a : Asked) → a.kind ≡ kinds.Pipeline → (open_of a).refusal ≡ 0
-    → roomOf (pipe_conf (conf_of a)) (new_capture a.term) opened ≡ (open_of a).room
+    → room_of (pipe_conf (conf_of a)) (new_capture a.term) opened ≡ (open_of a).room
 unfolding new_room
 opened_room a e z = rw ((accepted_room a z).1, e)
 
@@ -229,10 +229,10 @@ never_ahead a t z calls e =
 -- ---- the law
 
 by_calls : (ws : List ℕ) (conf : PipelineConf) (c : CapturePart) (k : ℕ) (w : Playing) → RoundsByCalls ws conf c k w
-unfolding play_rounds lastTurn
+unfolding play_rounds last_turn
 by_calls ws conf c k w =
     let turns = turn_same conf ws c in
-    let same = go_same is_refused (play_round ws conf) is_over (nextTurn ws) (turn_of conf c) (λ v. refl) turns k _ w in
+    let same = go_same is_refused (play_round ws conf) is_over (next_turn ws) (turn_of conf c) (λ v. refl) turns k _ w in
     record {
       last = same;
       room = room_after ws k (turn_of conf c w) ∙ ap (λ (t : Turn). t.answer.room) (sym same);

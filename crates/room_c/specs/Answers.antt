@@ -11,18 +11,18 @@ use Rattle.room.specs.declared.room.RoomKind.{RoomKind}
 use Rattle.room.specs.declared.room.RoomKind.TheVariants as kinds
 use Rattle.readings.specs.Calls.{
   Answer,
-  aKind,
-  theSettings,
+  a_kind,
+  the_settings,
   a_number,
-  theMetrics,
-  aRatio,
-  maybeNumber,
-  anOutcome,
-  aNode,
-  aText,
-  anEntry,
-  aPending,
-  aRecord,
+  the_metrics,
+  a_ratio,
+  maybe_number,
+  an_outcome,
+  a_node,
+  a_text,
+  an_entry,
+  a_pending,
+  a_record,
 }
 
 -- as in a frame
@@ -58,8 +58,8 @@ plain k xs = record { refusal = k; numbers = xs; floats = []; text = λ t. t }
 
 -- Every field of the answer, in order; what is no number there is a float or the text.
 unfoldable pub said : Answer → Said
-said (aKind k) = plain 0 (kind_number k ∷ [])
-said (theSettings s) =
+said (a_kind k) = plain 0 (kind_number k ∷ [])
+said (the_settings s) =
     record {
       refusal = 0;
       numbers =
@@ -68,17 +68,17 @@ said (theSettings s) =
       text = λ t. t;
     }
 said (a_number x) = plain 0 (x ∷ [])
-said (theMetrics m) = plain 0 (metrics_numbers m)
-said (aRatio x) = record { refusal = 0; numbers = ratio_number x ∷ []; floats = ratio_floats x; text = λ t. t }
-said (maybeNumber q) = plain q.refusal (q.value ∷ [])
-said (anOutcome q) = plain q.refusal (outcome_number q.outcome ∷ [])
-said (aNode q) = plain q.refusal (node_numbers q.node)
-said (aText q left) = record { refusal = q.refusal; numbers = q.len ∷ []; floats = []; text = λ t. left }
-said (anEntry q) = plain q.refusal (bool_byte q.there ∷ q.tx ∷ bool_byte q.committed ∷ [])
-said (aPending q) =
+said (the_metrics m) = plain 0 (metrics_numbers m)
+said (a_ratio x) = record { refusal = 0; numbers = ratio_number x ∷ []; floats = ratio_floats x; text = λ t. t }
+said (maybe_number q) = plain q.refusal (q.value ∷ [])
+said (an_outcome q) = plain q.refusal (outcome_number q.outcome ∷ [])
+said (a_node q) = plain q.refusal (node_numbers q.node)
+said (a_text q left) = record { refusal = q.refusal; numbers = q.len ∷ []; floats = []; text = λ t. left }
+said (an_entry q) = plain q.refusal (bool_byte q.there ∷ q.tx ∷ bool_byte q.committed ∷ [])
+said (a_pending q) =
     plain q.refusal
     (bool_byte q.pending ∷ bool_byte q.abort ∷ q.votes ∷ q.start ∷ q.«data».len ∷ q.«data».bytes)
-said (aRecord q) =
+said (a_record q) =
     plain q.refusal (bool_byte q.there ∷ q.tx ∷ bool_byte q.committed ∷ q.start ∷ q.end ∷ [])
 
 -- all numbers, the refusal in front

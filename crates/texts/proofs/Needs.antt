@@ -24,7 +24,7 @@ needs_no_digit f =
     omega arith
 
 -- an empty array, with white space behind its closing bracket
-empty : {w : List ℕ} → Ws w → Value (91 ∷ 93 ∷ w) (Tree.array Trees.no-trees)
+empty : {w : List ℕ} → Ws w → Value (91 ∷ 93 ∷ w) (Tree.array Trees.no_trees)
 empty d = Value.no_items (Token.token Ws.end Ws.end) (Token.token Ws.end d)
 
 -- the array [] without the blank behind it, and with it, both stand at the front of one text
@@ -32,7 +32,7 @@ pub needs_no_space : ((t₁ t₂ r₁ r₂ : List ℕ) (v : Tree) → Value t₁
     → t₁ ++ r₁ ≡ t₂ ++ r₂ → t₁ ≡ t₂) → ⊥
 needs_no_space f =
     let e =
-    f (91 ∷ 93 ∷ []) (91 ∷ 93 ∷ 32 ∷ []) (32 ∷ []) [] (Tree.array Trees.no-trees)
+    f (91 ∷ 93 ∷ []) (91 ∷ 93 ∷ 32 ∷ []) (32 ∷ []) [] (Tree.array Trees.no_trees)
     (empty Ws.end) (empty (Ws.blank Ws.end)) tt tt refl in
     let z : ◌≡◌ {A = ℕ} 0 1 = cc in
     omega arith

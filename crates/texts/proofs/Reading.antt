@@ -18,7 +18,7 @@ pub data Got : Type 0 where
 -- an item and those behind it, none where the bracket closes
 abbrev pub then_items : (List ℕ → Trees × List ℕ) → Got → Trees × List ℕ
 then_items items (Got.got v x) = (Trees.item v (items (skip x)).0, (items (skip x)).1)
-then_items items (Got.shut x) = (Trees.no-trees, x)
+then_items items (Got.shut x) = (Trees.no_trees, x)
 
 -- a member whose name has the code units u, and those behind it
 abbrev pub then_members : (List ℕ → Fields × List ℕ) → List ℕ → Got → Fields × List ℕ
@@ -42,9 +42,9 @@ unfoldable mutual
 
   -- what follows an array's first item
   pub items_at : ℕ → List ℕ → Trees × List ℕ
-  items_at zero s = (Trees.no-trees, [])
+  items_at zero s = (Trees.no_trees, [])
   items_at (suc n) s =
-      cond (eqb (hd s) 93) (Trees.no-trees, tl s) (then_items (λ x. items_at n x) (value_at n (skip (tl s))))
+      cond (eqb (hd s) 93) (Trees.no_trees, tl s) (then_items (λ x. items_at n x) (value_at n (skip (tl s))))
 
   -- what follows an object's opening brace, or its first member: a comma is passed over if there is one
   pub members_at : ℕ → List ℕ → Fields × List ℕ

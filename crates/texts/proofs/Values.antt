@@ -10,14 +10,14 @@ use Rattle.texts.specs.Rfc8259.{Tree, Trees, Fields, Ws, Token, Number, Str, Val
 use Rattle.texts.specs.Single.{no_numeric, no_space, stops}
 use Rattle.texts.proofs.Spaces.{
   skip,
-  skip-byte,
-  skip-ws,
-  skip-none,
+  skip_byte,
+  skip_ws,
+  skip_none,
   Opened,
   opened,
-  token-apart,
+  token_apart,
   ends,
-  apart-ends,
+  apart_ends,
 }
 use Rattle.texts.proofs.Numbers.{Numeric, Led, of_number, run_number, past_number}
 use Rattle.texts.proofs.Strings.{tl, chars_at, chars_size, read_chars}
@@ -79,7 +79,7 @@ number_step : {t : List ℕ} → Led t → (r : List ℕ) → T (no_numeric r) �
 unfolding value_at
 number_step (Led.led g h p) r e zero l = absurd (omega arith)
 number_step (Led.led {b} {t} g h p) r e (suc n) l =
-    rw (skip-byte b (t ++ r) g, h, run_number (Numeric.more h p) r e, past_number (Numeric.more h p) r e)
+    rw (skip_byte b (t ++ r) g, h, run_number (Numeric.more h p) r e, past_number (Numeric.more h p) r e)
 
 -- a string: its opening mark, and what the reader of characters makes of the rest
 pub record Quoted (s u r : List ℕ) (m : ℕ) : Type 0 where
@@ -103,7 +103,7 @@ string_step : {s u r : List ℕ} {m : ℕ} → Quoted s u r m → (n : ℕ) → 
     → value_at n (skip s) ≡ Got.got (Tree.string u) r
 unfolding value_at
 string_step q zero l = absurd (omega arith)
-string_step q (suc n) l = rw (q.first, skip-byte 34 q.inside refl, q.reads n (omega arith))
+string_step q (suc n) l = rw (q.first, skip_byte 34 q.inside refl, q.reads n (omega arith))
 
 -- brackets
 module _ {a : List ℕ} (x : List ℕ) where
@@ -117,9 +117,9 @@ module _ {a : List ℕ} (x : List ℕ) where
       → (n : ℕ) → suc m ≤ n → value_at n (skip (a ++ x)) ≡ Got.got (Tree.array vs) y
   unfolding value_at
   array_step o f zero l = absurd (omega arith)
-  array_step o f (suc n) l = rw (o.first x, skip-ws o.blank x, f n (omega arith))
+  array_step o f (suc n) l = rw (o.first x, skip_ws o.blank x, f n (omega arith))
 
-  close_step : (o : Opened 93 a) (n : ℕ) → 1 ≤ n → items_at n (skip (a ++ x)) ≡ (Trees.no-trees, o.space ++ x)
+  close_step : (o : Opened 93 a) (n : ℕ) → 1 ≤ n → items_at n (skip (a ++ x)) ≡ (Trees.no_trees, o.space ++ x)
   unfolding items_at
   close_step o zero l = absurd (omega arith)
   close_step o (suc n) l = rw (o.first x)
@@ -129,7 +129,7 @@ module _ {a : List ℕ} (x : List ℕ) where
       → (n : ℕ) → suc m ≤ n → items_at n (skip (a ++ x)) ≡ (vs, y)
   unfolding items_at
   items_step o f zero l = absurd (omega arith)
-  items_step o f (suc n) l = rw (o.first x, skip-ws o.blank x, f n (omega arith))
+  items_step o f (suc n) l = rw (o.first x, skip_ws o.blank x, f n (omega arith))
 
   -- braces
   object_step : {fs : Fields} {y : List ℕ} {m : ℕ} → Opened 123 a
@@ -137,7 +137,7 @@ module _ {a : List ℕ} (x : List ℕ) where
       → (n : ℕ) → suc m ≤ n → value_at n (skip (a ++ x)) ≡ Got.got (Tree.object fs) y
   unfolding value_at
   object_step o f zero l = absurd (omega arith)
-  object_step o f (suc n) l = rw (o.first x, skip-ws o.blank x, f n (omega arith))
+  object_step o f (suc n) l = rw (o.first x, skip_ws o.blank x, f n (omega arith))
 
   last_step : (o : Opened 125 a) (n : ℕ) → 1 ≤ n → members_at n (skip (a ++ x)) ≡ (Fields.no_fields, o.space ++ x)
   unfolding members_at
@@ -153,9 +153,9 @@ module _ {a : List ℕ} (x : List ℕ) where
   next_step o q f (suc n) l =
       rw (
         o.first x,
-        skip-ws o.blank x,
+        skip_ws o.blank x,
         q.first,
-        skip-byte 34 q.inside refl,
+        skip_byte 34 q.inside refl,
         q.reads n (omega arith),
         f n (omega arith),
       )
@@ -167,7 +167,7 @@ first_step : {x u y z : List ℕ} {fs : Fields} {m k : ℕ} → Quoted x u y k
 unfolding members_at
 first_step q f zero l = absurd (omega arith)
 first_step q f (suc n) l =
-    rw (q.first, skip-byte 34 q.inside refl, q.reads n (omega arith), f n (omega arith))
+    rw (q.first, skip_byte 34 q.inside refl, q.reads n (omega arith), f n (omega arith))
 
 -- ---- each rule of the grammar
 number_rule : {t : List ℕ} → Number t → ReadsValue t (Tree.number t)
@@ -192,9 +192,9 @@ string_rule d =
 
 -- the white space behind a closing bracket or brace
 left_over : {w : List ℕ} → Ws w → (r : List ℕ) → T (no_space r) → skip (w ++ r) ≡ r
-left_over d r h = skip-ws d r ∙ skip-none r h
+left_over d r h = skip_ws d r ∙ skip_none r h
 
-no_items_rule : {a b : List ℕ} → Token 91 a → Token 93 b → ReadsValue (a ++ b) (Tree.array Trees.no-trees)
+no_items_rule : {a b : List ℕ} → Token 91 a → Token 93 b → ReadsValue (a ++ b) (Tree.array Trees.no_trees)
 no_items_rule {a} {b} p q =
     let o = opened refl q in
     record {
@@ -203,7 +203,7 @@ no_items_rule {a} {b} p q =
       blank = o.blank;
       reads = λ r e n l.
           rw append_assoc
-          (array_step (b ++ r) {vs = Trees.no-trees} {y = o.space ++ r} (opened refl p)
+          (array_step (b ++ r) {vs = Trees.no_trees} {y = o.space ++ r} (opened refl p)
           (λ k m. rw (shut_step r o k m)) n l);
       left = λ r h. left_over o.blank r h;
     }
@@ -214,8 +214,8 @@ item_rest : {t x : List ℕ} {v : Tree} {vs : Trees} (d : ReadsValue t v) (f : R
     → then_items (λ z. items_at n z) (value_at n (skip (t ++ (x ++ r)))) ≡ (Trees.item v vs, f.space ++ r)
 item_rest {x} {v} d f r n l =
     rw (
-      d.reads (x ++ r) (apart-ends v (x ++ r) (f.apart r)) n (omega arith),
-      skip-ws d.blank (x ++ r),
+      d.reads (x ++ r) (apart_ends v (x ++ r) (f.apart r)) n (omega arith),
+      skip_ws d.blank (x ++ r),
       f.reads r n (omega arith),
     )
 
@@ -232,7 +232,7 @@ items_rule {a} {t} {r = x} p d f =
       left = λ r h. left_over f.blank r h;
     }
 
-close_items_rule : {b : List ℕ} → Token 93 b → ReadsItems b Trees.no-trees
+close_items_rule : {b : List ℕ} → Token 93 b → ReadsItems b Trees.no_trees
 close_items_rule q =
     let o = opened refl q in
     record {
@@ -240,7 +240,7 @@ close_items_rule q =
       space = o.space;
       blank = o.blank;
       reads = λ r n l. close_step r o n l;
-      apart = λ r. token-apart tt q r;
+      apart = λ r. token_apart tt q r;
     }
 
 more_items_rule : {c t r : List ℕ} {v : Tree} {vs : Trees} → Token 44 c → ReadsValue t v → ReadsItems r vs
@@ -253,7 +253,7 @@ more_items_rule {c} {t} {r = x} p d f =
       reads = λ r n l.
           rw (append_assoc, append_assoc)
           (items_step (t ++ (x ++ r)) (opened refl p) (λ k m. item_rest d f r k m) n l);
-      apart = λ r. rw append_assoc (token-apart tt p ((t ++ x) ++ r));
+      apart = λ r. rw append_assoc (token_apart tt p ((t ++ x) ++ r));
     }
 
 no_members_rule : {a b : List ℕ} → Token 123 a → Token 125 b → ReadsValue (a ++ b) (Tree.object Fields.no_fields)
@@ -277,9 +277,9 @@ member_rest {t} {x} {v} p d f r n l =
     let o = opened refl p in
     rw (
       o.first (t ++ (x ++ r)),
-      skip-ws o.blank (t ++ (x ++ r)),
-      d.reads (x ++ r) (apart-ends v (x ++ r) (f.apart r)) n (omega arith),
-      skip-ws d.blank (x ++ r),
+      skip_ws o.blank (t ++ (x ++ r)),
+      d.reads (x ++ r) (apart_ends v (x ++ r) (f.apart r)) n (omega arith),
+      skip_ws d.blank (x ++ r),
       f.reads r n (omega arith),
     )
 
@@ -306,7 +306,7 @@ close_members_rule q =
       space = o.space;
       blank = o.blank;
       reads = λ r n l. last_step r o n l;
-      apart = λ r. token-apart tt q r;
+      apart = λ r. token_apart tt q r;
     }
 
 more_members_rule : {m n c t r u : List ℕ} {v : Tree} {fs : Fields}
@@ -321,27 +321,27 @@ more_members_rule {m} {n = i} {c} {t} {r = x} p s o d f =
           rw (append_assoc, append_assoc, append_assoc, append_assoc)
           (next_step (i ++ (c ++ (t ++ (x ++ r)))) (opened refl p) (quoted s (c ++ (t ++ (x ++ r))))
           (λ k m. member_rest o d f r k m) n l);
-      apart = λ r. rw append_assoc (token-apart tt p ((i ++ (c ++ (t ++ x))) ++ r));
+      apart = λ r. rw append_assoc (token_apart tt p ((i ++ (c ++ (t ++ x))) ++ r));
     }
 
 -- ---- all of the grammar
 pub read_value : {t : List ℕ} {v : Tree} → Value t v → ReadsValue t v
 read_value d =
     elim d as (λ t v d. ReadsValue t v) (λ t vs d. ReadsItems t vs) (λ t fs d. ReadsMembers t fs) [
-      | Value.is-null ↦
+      | Value.is_null ↦
           record { steps = 1; space = []; blank = Ws.end; reads = λ r e n l. null_step r n l; left = λ r h. refl }
       | Value.is_true ↦
           record { steps = 1; space = []; blank = Ws.end; reads = λ r e n l. true_step r n l; left = λ r h. refl }
       | Value.is_false ↦
           record { steps = 1; space = []; blank = Ws.end; reads = λ r e n l. false_step r n l; left = λ r h. refl }
       | Value.is_number d ↦ number_rule d
-      | Value.is-string d ↦ string_rule d
+      | Value.is_string d ↦ string_rule d
       | Value.no_items p q ↦ no_items_rule p q
       | Value.items p (d → h) (f → k) ↦ items_rule p h k
-      | Value.no-members p q ↦ no_members_rule p q
+      | Value.no_members p q ↦ no_members_rule p q
       | Value.members p s o (d → h) (f → k) ↦ members_rule p s o h k
-      | Items.close-items q ↦ close_items_rule q
-      | Items.more-items p (d → h) (f → k) ↦ more_items_rule p h k
-      | Members.close-members q ↦ close_members_rule q
-      | Members.more-members p s o (d → h) (f → k) ↦ more_members_rule p s o h k
+      | Items.close_items q ↦ close_items_rule q
+      | Items.more_items p (d → h) (f → k) ↦ more_items_rule p h k
+      | Members.close_members q ↦ close_members_rule q
+      | Members.more_members p s o (d → h) (f → k) ↦ more_members_rule p s o h k
     ]

@@ -1,0 +1,12 @@
+use Rattle.std.proofs.Common.{◌≡◌, ◌^◌, ◌<◌, length, refl, ◌∙◌, arith, rules}
+use Rattle.marks.specs.Marks.{count_of}
+use Rattle.engines.specs.Marked.{over_marks}
+use Rattle.engines.specs.Columns.{cell_by, stored_as}
+use Rattle.engines.proofs.Marking.{without, over_less, over_turn, over_none}
+use Rattle.engines.proofs.columns.store.Given as goal
+
+abbrev pub invariant-loop-left : goal.invariant-loop-left
+invariant-loop-left l = (l.left < 2 ^ 64) × (over_marks l.left (cell_by l.start (λ v. l.x)) l.table ≡ over_marks l.who (cell_by l.start (λ v. l.x)) l.initial.table) × (length l.table ≡ length l.initial.table)
+
+abbrev pub decreases-loop-left : goal.decreases-loop-left
+decreases-loop-left l = count_of l.left 64

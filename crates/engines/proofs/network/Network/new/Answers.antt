@@ -1,0 +1,7 @@
+use Rattle.std.proofs.Common.{rules}
+use Rattle.engines.specs.Network.{new_network}
+use Rattle.engines.proofs.network.Network.new.Goals as goal
+
+pub returns : goal.returns
+unfolding new_network
+returns c = rw (c.new-metrics.ensures, c.new-v.ensures)

@@ -1,0 +1,18 @@
+use mathlib.Core.Path.{sym, ◌∙◌}
+use native.Mathlib.Omega.{arith}
+use borrow.Author.Rules.{rules}
+use Rattle.graph.proofs.Answers.{neighbors_refused, neighbors_given}
+use Rattle.graph.proofs.Rules.{node_parts}
+use Rattle.graph.proofs.network.NetworkGraph.neighbors.Goals as goal
+
+pub returns-then-refusal-ne0 : goal.returns-then-refusal-ne0
+returns-then-refusal-ne0 c = neighbors_refused _ _ _ c.node_refusal-refusal.ensures c.if-refusal-ne0.true
+
+pub offset_bounds-adj-i : goal.offset_bounds-adj-i
+offset_bounds-adj-i c = omega (arith, node_parts _ _ (sym c.node_refusal-refusal.ensures ∙ c.if-refusal-ne0.false))
+
+pub bounds-adj-i : goal.bounds-adj-i
+bounds-adj-i c = omega (arith, node_parts _ _ (sym c.node_refusal-refusal.ensures ∙ c.if-refusal-ne0.false))
+
+pub returns : goal.returns
+returns c = c.list_marks.ensures ∙ neighbors_given _ _ _ c.node_refusal-refusal.ensures c.if-refusal-ne0.false

@@ -1,0 +1,15 @@
+use mathlib.Core.Path.{◌≡◌}
+use Prim.Native.Nat.{◌≤◌, ◌-◌}
+use native.Mathlib.Omega.{arith}
+use borrow.Author.Rules.{rules}
+use Rattle.loops.specs.Table.{filled_all, filled, filled_none, filled_turn}
+use Rattle.marks.specs.Marks.{marks}
+use Rattle.graph.proofs.Rules.{graph_filled}
+use Rattle.graph.specs.Links.{link_of}
+use Rattle.graph.proofs.network.graph_by.Given as goal
+
+abbrev pub invariant-loop-i : goal.invariant-loop-i
+invariant-loop-i l = (l.i ≤ l.n) × (l.adj ≡ filled 0 64 l.i (λ j. marks l.n (link_of l.t l.n j)))
+
+abbrev pub decreases-loop-i : goal.decreases-loop-i
+decreases-loop-i l = l.n - l.i

@@ -1,0 +1,23 @@
+use mathlib.Core.Path.{◌≡◌, sym, ◌∙◌}
+use mathlib.Core.Bool.{true}
+use Prim.Native.Nat.{◌≤◌, ◌-◌}
+use native.Mathlib.Omega.{arith}
+use lib.ListN.{get_or}
+use borrow.Author.Tests.{not-true, not-false}
+use borrow.Author.Rules.{rules}
+use Rattle.marks.specs.Sets.{all_none, all_more, all_left, all_done}
+use Rattle.marks.specs.Marks.{all_of}
+use Rattle.graph.specs.Links.{inside}
+use Rattle.graph.proofs.network.rows_inside.Goals as goal
+
+pub loop-i-init : goal.loop-i-init
+loop-i-init c = (omega arith, all_none _)
+
+pub returns-then-not-row_inside : goal.returns-then-not-row_inside
+returns-then-not-row_inside c = sym (all_left (λ j. inside c.args.n (get_or c.args.rows.now j 0)) _ _ c.loop-i-test.true (sym c.row_inside.ensures ∙ c.if-not-row_inside.true))
+
+pub loop-i-preserved : goal.loop-i-preserved
+loop-i-preserved c = (omega arith, all_more (λ j. inside c.args.n (get_or c.args.rows.now j 0)) _ c.loop-i.invariant.1 (sym c.row_inside.ensures ∙ c.if-not-row_inside.false))
+
+pub returns : goal.returns
+returns c = sym (all_done (λ j. inside c.args.n (get_or c.args.rows.now j 0)) _ _ c.loop-i.invariant.0 c.loop-i-test.false c.loop-i.invariant.1)

@@ -1,0 +1,18 @@
+use mathlib.Core.Path.{refl, ◌∙◌, sym}
+use borrow.Author.Rules.{rules}
+use borrow.Author.Tests.{le-leb, lt-leb}
+use lib.ListN.{length}
+use lib.Seq.{length-take-le}
+use Rattle.packets.specs.Reading.{ce_read}
+use Rattle.packets.proofs.two_pc_ce.read_ce_packet.Goals as goal
+
+pub returns-then-len-s : goal.returns-then-len-s
+unfolding ce_read
+returns-then-len-s c = c.no_ce.ensures ∙ rw (lt-leb c.args.len (length c.args.s.now) c.if-len-s.true) refl
+
+pub slice_bounds-read_ce-end : goal.slice_bounds-read_ce-end
+slice_bounds-read_ce-end c = sym (length-take-le c.before.before.before.args.len c.before.before.before.args.s.now c.before.if1.false)
+
+pub returns : goal.returns
+unfolding ce_read
+returns c = rw (le-leb c.before.before.before.before.args.len (length c.before.before.before.before.args.s.now) c.before.before.if1.false) c.read_ce.ensures
