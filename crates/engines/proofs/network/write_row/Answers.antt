@@ -9,4 +9,4 @@ returns-then-not-row_due c = record { value = (put_none c.args.conf c.args.w c.a
 
 pub returns : goal.returns
 unfolding slot_row
-returns c = rw (← c.tick_all-shown.ensures, ← c.take_snapshot-r.ensures) (record { value = c.put_due.ensures.0; rows_after = c.put_due.ensures.1 })
+returns c = rw (← c.tick_all-shown.ensures, ← c.take_snapshot-r.ensures) (record { value = c.put_due.ensures.value; rows_after = c.put_due.ensures.rows_after })

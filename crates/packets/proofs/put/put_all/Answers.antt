@@ -26,7 +26,7 @@ pub loop-j-preserved : goal.loop-j-preserved
 loop-j-preserved c =
     (
       omega arith,
-      c.put_byte-o.auto.0 ∙ c.loop-j.invariant.1,
+      c.put_byte-o.auto.buf ∙ c.loop-j.invariant.1,
       put_as (sym (rw (add-one) (take-suc c.args.src.now c.loop-j.j 0 (omega arith))))
           (put_more (omega (arith, c.requires)) c.loop-j.invariant.2 c.put_byte-o.ensures),
     )

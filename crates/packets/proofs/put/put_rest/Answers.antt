@@ -34,7 +34,7 @@ put_byte-requires c =
     omega (arith, (due_room (93 ∷ []) [] (open_last)).room)
 
 pub shape_of-buf : goal.shape_of-buf
-shape_of-buf c = c.put_byte.auto.0 ∙ c.loop-i.invariant.0.same
+shape_of-buf c = c.put_byte.auto.buf ∙ c.loop-i.invariant.0.same
 
 pub returns : goal.returns
 returns c =

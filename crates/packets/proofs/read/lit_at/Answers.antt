@@ -11,9 +11,7 @@ unfolding lit_at
 loop-j-init c = refl
 
 pub returns-then-i-s : goal.returns-then-i-s
-returns-then-i-s c =
-    let a = c.args in
-    sym (c.loop-j.invariant ∙ with_short a.s.now c.loop-j.i a.t.now c.loop-j.j (omega arith) c.if-i-s.true)
+returns-then-i-s c = sym (c.loop-j.invariant ∙ with_short c.args.s.now c.loop-j.i c.args.t.now c.loop-j.j (omega arith) c.if-i-s.true)
 
 pub bounds-s-i : goal.bounds-s-i
 bounds-s-i c = omega arith
@@ -22,9 +20,7 @@ pub bounds-t-j : goal.bounds-t-j
 bounds-t-j c = omega arith
 
 pub returns-then-s-i : goal.returns-then-s-i
-returns-then-s-i c =
-    let a = c.args in
-    sym (c.loop-j.invariant ∙ with_other a.s.now c.loop-j.i a.t.now c.loop-j.j (omega arith) (omega arith) c.if-s-i.true)
+returns-then-s-i c = sym (c.loop-j.invariant ∙ with_other c.args.s.now c.loop-j.i c.args.t.now c.loop-j.j (omega arith) (omega arith) c.if-s-i.true)
 
 pub overflow_add-i : goal.overflow_add-i
 overflow_add-i c = omega arith
@@ -36,11 +32,7 @@ pub loop-j-smaller : goal.loop-j-smaller
 loop-j-smaller c = omega arith
 
 pub loop-j-preserved : goal.loop-j-preserved
-loop-j-preserved c =
-    let a = c.args in
-    c.loop-j.invariant ∙ with_more a.s.now c.loop-j.i a.t.now c.loop-j.j (omega arith) (omega arith) c.if-s-i.false
+loop-j-preserved c = c.loop-j.invariant ∙ with_more c.args.s.now c.loop-j.i c.args.t.now c.loop-j.j (omega arith) (omega arith) c.if-s-i.false
 
 pub returns : goal.returns
-returns c =
-    let a = c.args in
-    sym (c.loop-j.invariant ∙ with_done a.s.now c.loop-j.i a.t.now c.loop-j.j c.loop-j-test.false)
+returns c = sym (c.loop-j.invariant ∙ with_done c.args.s.now c.loop-j.i c.args.t.now c.loop-j.j c.loop-j-test.false)

@@ -41,7 +41,7 @@ pub with_mark-m-requires : goal.with_mark-m-requires
 with_mark-m-requires c = (c.loop-k-test.true, c.loop-k.invariant.1)
 
 pub overflow_add-result-then-byte_at-2 : goal.overflow_add-result-then-byte_at-2
-overflow_add-result-then-byte_at-2 c = omega (arith, lit_le c.args.s.now c.in-Got.next (93 ∷ []) (sym c.byte_at-in-loop-k.ensures ∙ c.if-byte_at-2.true) (omega arith), c.before.before.before.before.before.before.before.before.before.before.before.before.before.before.well-formed)
+overflow_add-result-then-byte_at-2 c = omega (arith, lit_le c.args.s.now c.in-Got.next (93 ∷ []) (sym c.byte_at-in-loop-k.ensures ∙ c.if-byte_at-2.true) (omega arith), c.well_formed)
 
 pub returns-then-byte_at-2 : goal.returns-then-byte_at-2
 unfolding bitmap_at map
@@ -52,7 +52,7 @@ unfolding bitmap_at map
 returns-then-not-byte_at-2 c = ap bitmap_found (sym (c.loop-k.invariant.2 ∙ ap (map bitmap_of) (turn_stop bool_at store_mark 64 c.args.s.now c.loop-k.i c.loop-k.k c.loop-k.m c.loop-k-test.true c.in-Got.value c.in-Got.next (bool_got _ c.read_bool.ensures c.in-Got.is) c.with_mark-m.result c.with_mark-m.ensures.0 (sym c.byte_at-in-loop-k.ensures ∙ c.if-byte_at-2.false) (sym c.byte_at-in-loop-k-2.ensures ∙ c.if-not-byte_at-2.true))))
 
 pub overflow_add-i-in-loop-k : goal.overflow_add-i-in-loop-k
-overflow_add-i-in-loop-k c = omega (arith, lit_le c.args.s.now c.in-Got.next (44 ∷ []) (sym c.byte_at-in-loop-k-2.ensures ∙ c.if-not-byte_at-2.false) (omega arith), c.before.before.before.before.before.before.before.before.before.before.before.before.before.before.before.before.well-formed)
+overflow_add-i-in-loop-k c = omega (arith, lit_le c.args.s.now c.in-Got.next (44 ∷ []) (sym c.byte_at-in-loop-k-2.ensures ∙ c.if-not-byte_at-2.false) (omega arith), c.well_formed)
 
 pub loop-k-preserved : goal.loop-k-preserved
 loop-k-preserved c = (omega (arith, c.loop-k-test.true), c.with_mark-m.ensures.1, c.loop-k.invariant.2 ∙ ap (map bitmap_of) (turn_more bool_at store_mark 64 c.args.s.now c.loop-k.i c.loop-k.k c.loop-k.m c.loop-k-test.true c.in-Got.value c.in-Got.next (bool_got _ c.read_bool.ensures c.in-Got.is) c.with_mark-m.result c.with_mark-m.ensures.0 (sym c.byte_at-in-loop-k.ensures ∙ c.if-byte_at-2.false) (sym c.byte_at-in-loop-k-2.ensures ∙ c.if-not-byte_at-2.false)))

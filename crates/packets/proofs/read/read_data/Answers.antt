@@ -44,7 +44,7 @@ pub overflow_cast-d : goal.overflow_cast-d
 overflow_cast-d c = omega (arith, ((num_reads 256 (omega arith)).sound c.args.s.now c.loop-k.i c.in-Got.value c.in-Got.next (num_got _ c.read_num.ensures c.in-Got.is)).1)
 
 pub overflow_add-next : goal.overflow_add-next
-overflow_add-next c = omega (arith, lit_le c.args.s.now c.in-Got.next (93 ∷ []) (sym c.byte_at-in-loop-k.ensures ∙ c.if-byte_at-2.true) (omega arith), c.before.before.before.before.before.before.before.before.before.before.before.before.before.well-formed)
+overflow_add-next c = omega (arith, lit_le c.args.s.now c.in-Got.next (93 ∷ []) (sym c.byte_at-in-loop-k.ensures ∙ c.if-byte_at-2.true) (omega arith), c.well_formed)
 
 pub returns-then-byte_at-2 : goal.returns-then-byte_at-2
 unfolding data_at map
@@ -55,7 +55,7 @@ unfolding data_at map
 returns-then-not-byte_at-2 c = c.no_data-then-not-byte_at-2.ensures ∙ ap data_found (sym (c.loop-k.invariant.2 ∙ ap (map data_of) (turn_stop (num_at 256) store_byte most_bytes c.args.s.now c.loop-k.i c.loop-k.k c.loop-k.d c.loop-k-test.true c.in-Got.value c.in-Got.next (num_got _ c.read_num.ensures c.in-Got.is) (set c.loop-k.d c.loop-k.k c.in-Got.value) (refl) (sym c.byte_at-in-loop-k.ensures ∙ c.if-byte_at-2.false) (sym c.byte_at-in-loop-k-2.ensures ∙ c.if-not-byte_at-2.true))))
 
 pub overflow_add-i-in-loop-k : goal.overflow_add-i-in-loop-k
-overflow_add-i-in-loop-k c = omega (arith, lit_le c.args.s.now c.in-Got.next (44 ∷ []) (sym c.byte_at-in-loop-k-2.ensures ∙ c.if-not-byte_at-2.false) (omega arith), c.before.before.before.before.before.before.before.before.before.before.before.before.before.before.before.well-formed)
+overflow_add-i-in-loop-k c = omega (arith, lit_le c.args.s.now c.in-Got.next (44 ∷ []) (sym c.byte_at-in-loop-k-2.ensures ∙ c.if-not-byte_at-2.false) (omega arith), c.well_formed)
 
 pub loop-k-preserved : goal.loop-k-preserved
 loop-k-preserved c = (omega (arith, c.loop-k-test.true), simp length-set c.loop-k.invariant.1, c.loop-k.invariant.2 ∙ ap (map data_of) (turn_more (num_at 256) store_byte most_bytes c.args.s.now c.loop-k.i c.loop-k.k c.loop-k.d c.loop-k-test.true c.in-Got.value c.in-Got.next (num_got _ c.read_num.ensures c.in-Got.is) (set c.loop-k.d c.loop-k.k c.in-Got.value) (refl) (sym c.byte_at-in-loop-k.ensures ∙ c.if-byte_at-2.false) (sym c.byte_at-in-loop-k-2.ensures ∙ c.if-not-byte_at-2.false)))

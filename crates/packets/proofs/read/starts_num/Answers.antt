@@ -10,16 +10,10 @@ pub returns-then-at-s : goal.returns-then-at-s
 returns-then-at-s c = sym (starts_end c.args.s.now c.args.at c.if-at-s.true)
 
 pub returns-then-s-at-ne48 : goal.returns-then-s-at-ne48
-returns-then-s-at-ne48 c =
-    let a = c.args in
-    c.is_digit.ensures ∙ sym (starts_other a.s.now a.at (omega arith) c.if-s-at-ne48.true)
+returns-then-s-at-ne48 c = c.is_digit.ensures ∙ sym (starts_other c.args.s.now c.args.at (omega arith) c.if-s-at-ne48.true)
 
 pub returns-then-next-s : goal.returns-then-next-s
-returns-then-next-s c =
-    let a = c.args in
-    ap not (c.is_digit-then-next-s.ensures ∙ sym (head_at a.s.now (a.at + 1) (omega arith))) ∙ sym (starts_zero a.s.now a.at (omega arith) c.if-s-at-ne48.false)
+returns-then-next-s c = ap not (c.is_digit-then-next-s.ensures ∙ sym (head_at c.args.s.now (c.args.at + 1) (omega arith))) ∙ sym (starts_zero c.args.s.now c.args.at (omega arith) c.if-s-at-ne48.false)
 
 pub returns : goal.returns
-returns c =
-    let a = c.args in
-    ap not (sym (head_end a.s.now (a.at + 1) (omega arith))) ∙ sym (starts_zero a.s.now a.at (omega arith) c.if-s-at-ne48.false)
+returns c = ap not (sym (head_end c.args.s.now (c.args.at + 1) (omega arith))) ∙ sym (starts_zero c.args.s.now c.args.at (omega arith) c.if-s-at-ne48.false)

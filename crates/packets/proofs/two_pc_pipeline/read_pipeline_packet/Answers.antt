@@ -11,8 +11,8 @@ unfolding pipeline_read
 returns-then-len-s c = c.no_pipeline.ensures ∙ rw (lt-leb c.args.len (length c.args.s.now) c.if-len-s.true) refl
 
 pub slice_bounds-read_pipeline-end : goal.slice_bounds-read_pipeline-end
-slice_bounds-read_pipeline-end c = sym (length-take-le c.before.before.before.args.len c.before.before.before.args.s.now c.before.if1.false)
+slice_bounds-read_pipeline-end c = sym (length-take-le c.args.len c.args.s.now c.if-len-s.false)
 
 pub returns : goal.returns
 unfolding pipeline_read
-returns c = rw (le-leb c.before.before.before.before.args.len (length c.before.before.before.before.args.s.now) c.before.before.if1.false) c.read_pipeline.ensures
+returns c = rw (le-leb c.args.len (length c.args.s.now) c.if-len-s.false) c.read_pipeline.ensures
