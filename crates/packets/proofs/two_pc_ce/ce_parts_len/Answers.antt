@@ -28,10 +28,10 @@ pub overflow_add-result-3 : goal.overflow_add-result-3
 overflow_add-result-3 c = omega (arith, c.decimal_len.ensures, c.phase_len.ensures, phase_le c.args.phase, c.if-data-gt129.false)
 
 pub overflow_add-result-4 : goal.overflow_add-result-4
-overflow_add-result-4 c = omega (arith, c.decimal_len.ensures, c.phase_len.ensures, phase_le c.args.phase, c.if-data-gt129.false, c.bitmap_len.ensures, bitmap_len_le c.args.flags-bitmap, c.if-flags_bitmap-gt-BITMAP.false)
+overflow_add-result-4 c = omega (arith, c.decimal_len.ensures, c.phase_len.ensures, phase_le c.args.phase, c.if-data-gt129.false, c.bitmap_len.ensures, bitmap_len_le c.args.flags_bitmap, c.if-flags_bitmap-gt-BITMAP.false)
 
 pub returns : goal.returns
 unfolding parts_len
 returns c =
     rw (le-leb _ 64 c.if-flags_bitmap-gt-BITMAP.false, lt-ltb 0 c.args.data (omega (arith, c.if-data-eq0.false)), le-leb _ 129 c.if-data-gt129.false)
-    (omega (arith, c.decimal_len.ensures, c.phase_len.ensures, c.bitmap_len.ensures, bitmap_len_is c.args.flags-bitmap))
+    (omega (arith, c.decimal_len.ensures, c.phase_len.ensures, c.bitmap_len.ensures, bitmap_len_is c.args.flags_bitmap))

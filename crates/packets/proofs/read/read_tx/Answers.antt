@@ -1,0 +1,24 @@
+use mathlib.Core.Path.{sym, ◌∙◌}
+use Prim.Native.Nat.{◌^◌}
+use native.Mathlib.Omega.{arith}
+use borrow.Author.Rules.{rules}
+use Rattle.packets.proofs.Founds.{num_got, num_bad}
+use Rattle.packets.specs.Reading.{tx_at}
+use Rattle.texts.specs.LiteralLaws.{lit_le}
+use Rattle.texts.specs.Readers.{map, null_text, or_null, num_at}
+use Rattle.packets.proofs.read.read_tx.Goals as goal
+
+pub overflow_add-result : goal.overflow_add-result
+overflow_add-result c = omega (arith, lit_le c.args.s.now c.args.at (null_text) (sym c.lit_at.ensures ∙ c.if-lit_at.true) (omega arith))
+
+pub returns-then-lit_at : goal.returns-then-lit_at
+unfolding tx_at or_null map
+returns-then-lit_at c = rw (sym c.lit_at.ensures ∙ c.if-lit_at.true)
+
+pub returns-in_default : goal.returns-in_default
+unfolding tx_at or_null map
+returns-in_default c = rw (sym c.lit_at.ensures ∙ c.if-lit_at.false, num_bad (num_at (2 ^ 64) c.args.s.now c.args.at) c.read_num.ensures c.in_default.is)
+
+pub returns : goal.returns
+unfolding tx_at or_null map
+returns c = rw (sym c.lit_at.ensures ∙ c.if-lit_at.false, num_got (num_at (2 ^ 64) c.args.s.now c.args.at) c.read_num.ensures c.in-Got.is)
