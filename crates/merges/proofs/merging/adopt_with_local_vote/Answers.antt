@@ -1,0 +1,10 @@
+use Rattle.merges.proofs.Slips.{adopted_by}
+use Rattle.std.proofs.Common.{rules}
+use Rattle.merges.proofs.merging.adopt_with_local_vote.Goals as goal
+
+pub returns : goal.returns
+returns c d =
+    adopted_by _ _ _ _
+    (c.ensure_bitmap_len-filled.ensures d)
+    (c.voice-slip.ensures d)
+    (c.settle-y.ensures d)
