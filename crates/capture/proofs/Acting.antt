@@ -52,7 +52,7 @@ module _ {n : ℕ} {base : CeState} {b : Board} {x : List ℕ} (o : Shown n base
 
   pub states_are : b.states ≡ sets_of n nodes
   unfolding seen_by
-  states_are = resting.sets-shown o
+  states_are = resting.sets_shown o
 
   pub last_at_lem : (i : ℕ) → i < at_most64 n → (get_or nodes i no_node).last_progress_slot ≡ cell x last_at i
   unfolding seen_by

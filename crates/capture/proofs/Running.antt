@@ -129,20 +129,20 @@ module _ (ws : List ℕ) (conf : RoundConf) (base : CeState) where
 
   module _ {final : List ℕ} {left : ℕ} {b : Board} {x : List ℕ} {at : ℕ} {rows : List ℕ} (o : Writing ws conf base final left b x at rows) where
     pub writing_stop : b.ended ≡ true → rows ≡ final
-    writing_stop e = rounds.left-stop network_in over (slot_of ws conf) conf o.still (ended_is o.shown ∙ e)
+    writing_stop e = rounds.left_stop network_in over (slot_of ws conf) conf o.still (ended_is o.shown ∙ e)
 
     pub writing_full : ltb (length rows - at) 5 ≡ true → rows ≡ final
-    writing_full e = rounds.left-full network_in over (slot_of ws conf) conf o.still e
+    writing_full e = rounds.left_full network_in over (slot_of ws conf) conf o.still e
 
     pub writing_none : left ≤ 0 → rows ≡ final
-    writing_none h = rounds.left-none network_in over (slot_of ws conf) conf o.still h
+    writing_none h = rounds.left_none network_in over (slot_of ws conf) conf o.still h
 
     pub writing_turn : (top : ℕ) → highest_progress conf.graph.n base.network.nodes ≡ top → {row : Row} → row ≡ row_by b top → {rows' : List ℕ} {at' : ℕ}
         → at' ≡ written_end (length rows) at (due_row b.slot row) → rows' ≡ written_at rows at (due_row b.slot row) → {r : CeStep} {y : List ℕ}
         → ((s : CeState) → Shown conf.graph.n base b x s → Advanced ws conf base left s r y) → Writing ws conf base final r.left r.board y at' rows'
     writing_turn top e er ea eb step =
         let a = step o.state o.shown in
-        record { state = a.state; shown = a.shown; still = rounds.left-turn network_in over (slot_of ws conf) conf o.still (put top e er ea eb) a.stepped }
+        record { state = a.state; shown = a.shown; still = rounds.left_turn network_in over (slot_of ws conf) conf o.still (put top e er ea eb) a.stepped }
       where
         put : (top : ℕ) → highest_progress conf.graph.n base.network.nodes ≡ top → {row : Row} → row ≡ row_by b top → {rows' : List ℕ} {at' : ℕ}
             → at' ≡ written_end (length rows) at (due_row b.slot row) → rows' ≡ written_at rows at (due_row b.slot row) → Put conf o.state.network rows at rows' at'

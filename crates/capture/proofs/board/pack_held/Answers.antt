@@ -1,0 +1,24 @@
+use Rattle.std.proofs.Common.{◌≡◌, ◌-◌, ◌≤◌, refl, arith, rules}
+use Rattle.loops.specs.Upto.{upto, upto_none, upto_turn, upto_all}
+use Rattle.engines.specs.Clamp.{at_most64}
+use Rattle.engines.specs.Marked.{place}
+use Rattle.merges.specs.Merging.{no_payload}
+use Rattle.engines.specs.Columns.{cell}
+use Rattle.capture.specs.Boards.{payload_by, payloads_by, data_in}
+use Rattle.capture.proofs.board.pack_held.Goals as goal
+
+pub loop-i-init : goal.loop-i-init
+loop-i-init c = (c.at_most_64-count.ensures, omega arith, upto_none _ _)
+
+pub loop-i-preserved : goal.loop-i-preserved
+unfolding data_in cell
+loop-i-preserved c =
+    (
+      c.loop-i.invariant.0,
+      omega arith,
+      upto_turn _ _ c.loop-i.invariant.2 (rw (c.payload_by.ensures c.args.held refl)),
+    )
+
+pub returns : goal.returns
+unfolding payloads_by
+returns c = upto_all _ _ (omega arith) (omega arith) c.loop-i.invariant.2

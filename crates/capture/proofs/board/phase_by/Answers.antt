@@ -1,0 +1,23 @@
+use Rattle.std.proofs.Common.{sym, ◌∙◌, rules}
+use Rattle.capture.specs.Boards.{phase_by}
+use Rattle.capture.proofs.board.phase_by.Goals as goal
+
+pub returns-then-is_marked : goal.returns-then-is_marked
+unfolding phase_by
+returns-then-is_marked c = rw (sym c.is_marked.ensures ∙ c.if-is_marked.true)
+
+pub returns-then-is_marked-2 : goal.returns-then-is_marked-2
+unfolding phase_by
+returns-then-is_marked-2 c =
+    rw (
+      sym c.is_marked.ensures ∙ c.if-is_marked.false,
+      sym c.is_marked-2.ensures ∙ c.if-is_marked-2.true,
+    )
+
+pub returns : goal.returns
+unfolding phase_by
+returns c =
+    rw (
+      sym c.is_marked.ensures ∙ c.if-is_marked.false,
+      sym c.is_marked-2.ensures ∙ c.if-is_marked-2.false,
+    )

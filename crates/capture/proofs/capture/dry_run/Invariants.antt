@@ -1,0 +1,14 @@
+use Rattle.std.proofs.Common.{◌≡◌, ◌^◌, ◌<◌, rules}
+use Rattle.engines.specs.declared.network.RoundConf.{RoundConf}
+use Rattle.capture.specs.declared.capture.CeState.{CeState}
+use Rattle.capture.specs.Boards.{Shown, Goes}
+use Rattle.capture.proofs.Running.{Going, going_first, going_stop, going_short, going_none, going_turn}
+use Rattle.capture.proofs.capture.dry_run.Given as goal
+
+abbrev pub invariant-loop-left : goal.invariant-loop-left
+invariant-loop-left l =
+    (conf : RoundConf) (base state : CeState) → Goes conf l.links l.f → conf.length ≡ l.length → Shown conf.graph.n base l.initial.d l.initial.table state
+    → Going l.words conf base state l.left l.d l.table l.due
+
+abbrev pub decreases-loop-left : goal.decreases-loop-left
+decreases-loop-left l = l.left

@@ -1,0 +1,25 @@
+use Rattle.std.proofs.Common.{◌≡◌, ◌^◌, ◌<◌, refl, arith, rules}
+use Rattle.marks.specs.Marks.{count_of}
+use Rattle.marks.specs.Sets.{lowest_lt}
+use Rattle.engines.proofs.Marking.{without, over_less, over_turn, over_none}
+use Rattle.loops.specs.Wrap.{add64}
+use Rattle.engines.specs.Marked.{over_marks}
+use Rattle.engines.specs.Network.{on_air}
+use Rattle.capture.specs.Boards.{length_by, sent_by}
+use Rattle.capture.proofs.ce.bytes_of.Goals as goal
+
+pub loop-left-init : goal.loop-left-init
+loop-left-init c = (omega arith, refl)
+
+pub text_len-requires : goal.text_len-requires
+text_len-requires c = lowest_lt _ _ c.loop-left.invariant.0 c.loop-left-test.true c.lowest_mark-i.ensures
+
+pub loop-left-smaller : goal.loop-left-smaller
+loop-left-smaller c = over_less (without _ _ _ c.loop-left.invariant.0 c.loop-left-test.true c.lowest_mark-i.ensures c.without_mark-left.ensures)
+
+pub loop-left-preserved : goal.loop-left-preserved
+loop-left-preserved c = let w = without _ _ _ c.loop-left.invariant.0 c.loop-left-test.true c.lowest_mark-i.ensures c.without_mark-left.ensures in (omega arith, over_turn _ w (rw (c.wrapping_add_u64-sum.ensures.value, c.on_air.ensures, c.text_len.ensures)) c.loop-left.invariant.1)
+
+pub returns : goal.returns
+unfolding sent_by
+returns c = over_none _ c.loop-left-test.false c.loop-left.invariant.1

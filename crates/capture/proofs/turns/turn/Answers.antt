@@ -1,0 +1,20 @@
+use Rattle.std.proofs.Common.{refl, rules}
+use Rattle.capture.proofs.turns.turn.Goals as goal
+
+pub returns : goal.returns
+returns c =
+    record {
+      progressed = c.union-progressed.result;
+      marks = c.union-progressed.ensures;
+      table = c.store.ensures;
+      states = c.change-states.ensures;
+      goal = c.goals.ensures;
+      phases = refl;
+      rests = refl;
+      metrics = c.count_slot-metrics.ensures;
+      slot = c.wrapping_add_u64.ensures.value;
+      row = c.next_row.ensures;
+      bytes = c.wrapping_add_u64-2.ensures.value;
+      draw = refl;
+      going = refl;
+    }

@@ -1,0 +1,31 @@
+use Rattle.std.proofs.Common.{◌^◌, ◌<◌, length, sym, refl, ◌∙◌, arith, rules}
+use Rattle.loops.specs.Runs.{runs}
+use Rattle.engines.specs.Rounds.{rows_in}
+use Rattle.engines.proofs.Rounds.{Counted, counted_turn, counted_stop, counted_none, counted_short}
+use Rattle.flood.specs.Flood.{is_over, flood_slot}
+use Rattle.flood.specs.declared.flood.FloodRun.{FloodRun}
+use Rattle.flood.proofs.FloodShortage.{flood_short}
+use Rattle.flood.proofs.flood.survey.Goals as goal
+
+pub loop-left-init : goal.loop-left-init
+loop-left-init c = record { run = refl; rows = omega arith; small = omega arith }
+
+pub returns-then-run : goal.returns-then-run
+returns-then-run c = counted_stop (λ (r : FloodRun). r.network) is_over _ _ _ _ _ c.loop-left.invariant c.loop-left-test.true c.if-run.true
+
+pub returns-then-ran_short : goal.returns-then-ran_short
+returns-then-ran_short c = counted_short (λ (r : FloodRun). r.network) is_over _ _ _ _ _ c.loop-left.invariant (flood_short _ _ _) (sym c.ran_short.ensures ∙ c.if-ran_short.true)
+
+pub advance-step-requires : goal.advance-step-requires
+advance-step-requires c = (c.loop-left-test.true, c.if-run.false)
+
+pub loop-left-smaller : goal.loop-left-smaller
+loop-left-smaller c = c.advance-step.ensures.less
+
+pub loop-left-preserved : goal.loop-left-preserved
+loop-left-preserved c =
+    let fits : c.args.conf.length < 2 ^ 64 = search rules in
+    counted_turn (λ (r : FloodRun). r.network) is_over _ _ c.loop-left.invariant (fits) c.loop-left-test.true c.due_after-due.ensures c.advance-step.ensures
+
+pub returns : goal.returns
+returns c = counted_none (λ (r : FloodRun). r.network) is_over _ _ _ _ _ c.loop-left.invariant c.loop-left-test.false

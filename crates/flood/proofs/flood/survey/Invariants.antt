@@ -1,0 +1,14 @@
+use Rattle.std.proofs.Common.{◌^◌, ◌<◌, length, sym, refl, ◌∙◌, arith, rules}
+use Rattle.loops.specs.Runs.{runs}
+use Rattle.engines.specs.Rounds.{rows_in}
+use Rattle.engines.proofs.Rounds.{Counted, counted_turn, counted_stop, counted_none, counted_short}
+use Rattle.flood.specs.Flood.{is_over, flood_slot}
+use Rattle.flood.specs.declared.flood.FloodRun.{FloodRun}
+use Rattle.flood.proofs.FloodShortage.{flood_short}
+use Rattle.flood.proofs.flood.survey.Given as goal
+
+abbrev pub invariant-loop-left : goal.invariant-loop-left
+invariant-loop-left l = Counted (λ (r : FloodRun). r.network) is_over (flood_slot l.words l.conf l.bytes) l.conf (runs is_over (flood_slot l.words l.conf l.bytes) l.conf.length l.initial.run) (length (rows_in (λ (r : FloodRun). r.network) is_over (flood_slot l.words l.conf l.bytes) l.conf l.conf.length l.initial.run)) l.conf.length l.left l.run l.due
+
+abbrev pub decreases-loop-left : goal.decreases-loop-left
+decreases-loop-left l = l.left

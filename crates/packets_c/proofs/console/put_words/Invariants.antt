@@ -1,0 +1,15 @@
+use mathlib.Core.Path.{◌≡◌, refl, sym, ◌∙◌}
+use Prim.Native.Nat.{◌-◌, ◌≤◌}
+use native.Mathlib.Numerals.{add-one}
+use native.Mathlib.Omega.{arith}
+use borrow.Author.Rules.{rules}
+use lib.ListN.{length, take}
+use lib.Seq.{take-suc, take_all, length-take-le}
+use Rattle.texts.specs.Put.{Put, put_as, put_more, put_none}
+use Rattle.packets_c.proofs.console.put_words.Given as goal
+
+abbrev pub invariant-loop-j : goal.invariant-loop-j
+invariant-loop-j l = (l.j ≤ length l.src) × (length l.out ≡ length l.initial.out) × Put l.initial.out l.at (take l.j l.src) l.o l.out
+
+abbrev pub decreases-loop-j : goal.decreases-loop-j
+decreases-loop-j l = length l.src - l.j
