@@ -1,3 +1,4 @@
+use Rattle.std.proofs.Common.{◌≡◌}
 use mathlib.Core.Path.{sym, ap, ◌∙◌}
 use native.Mathlib.Omega.{arith}
 use borrow.Author.Rules.{rules}
@@ -24,7 +25,9 @@ returns-then-r-ne0 c =
     record { value = all.0; numbers_after = all.1.0; bytes_after = all.1.1 }
 
 pub put_words-requires : goal.put_words-requires
-put_words-requires c = record { room = omega (arith, slice_aggregate_put_words c, c.if-numbers-lt5.false) }
+put_words-requires c =
+    let long : length c.ce_numbers-n.result ≡ 5 = search rules in
+    record { room = omega (arith, long, c.if-numbers-lt5.false) }
 
 pub put_kept-requires : goal.put_kept-requires
 put_kept-requires c = omega (arith, c.if-bytes-lt-DATA.false)

@@ -1,0 +1,10 @@
+use Rattle.std.proofs.Common.{◌≡◌, ◌-◌, ◌≤◌, rules}
+use Rattle.loops.specs.Upto.{upto, upto_none, upto_turn, upto_all}
+use Rattle.pipeline.specs.Pending.{gap_at, gap_of}
+use Rattle.pipeline.proofs.pending.detect_gap.Given as goal
+
+abbrev pub invariant-loop-t : goal.invariant-loop-t
+invariant-loop-t l = (l.t ≤ l.count) × (l.g ≡ upto l.t (gap_at l.known) 64)
+
+abbrev pub decreases-loop-t : goal.decreases-loop-t
+decreases-loop-t l = l.count - l.t

@@ -1,0 +1,7 @@
+use Rattle.pipeline.specs.Pending.{fast_of}
+use Rattle.std.proofs.Common.{rules}
+use Rattle.pipeline.proofs.pending.fast_aborts.Goals as goal
+
+pub returns : goal.returns
+unfolding fast_of
+returns c = c.common.ensures

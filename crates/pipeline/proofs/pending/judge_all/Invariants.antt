@@ -1,0 +1,12 @@
+use Rattle.std.proofs.Common.{◌≡◌, ◌^◌, ◌<◌, refl, arith, rules}
+use Rattle.marks.specs.Marks.{count_of}
+use Rattle.engines.specs.Marked.{over_marks}
+use Rattle.engines.proofs.Marking.{without, over_less, over_turn, over_none}
+use Rattle.pipeline.specs.Pending.{settle_at}
+use Rattle.pipeline.proofs.pending.judge_all.Given as goal
+
+abbrev pub invariant-loop-left : goal.invariant-loop-left
+invariant-loop-left l = (l.left < 2 ^ 64) × (over_marks l.left (settle_at l.n) l.q ≡ over_marks l.initial.left (settle_at l.n) l.initial.q)
+
+abbrev pub decreases-loop-left : goal.decreases-loop-left
+decreases-loop-left l = count_of l.left 64

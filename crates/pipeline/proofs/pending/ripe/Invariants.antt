@@ -1,0 +1,11 @@
+use Rattle.std.proofs.Common.{◌≡◌, ℕ, ◌-◌, ◌^◌, ◌<◌, ◌≤◌, ◌&&◌, ltb, get_or, arith, rules}
+use Rattle.marks.specs.Sets.{grown_all, grown_none, grown_turn}
+use Rattle.marks.specs.Marks.{has}
+use Rattle.pipeline.specs.Pending.{is_judged, ripe_of}
+use Rattle.pipeline.proofs.pending.ripe.Given as goal
+
+abbrev pub invariant-loop-t : goal.invariant-loop-t
+invariant-loop-t l = (l.t ≤ 64) × ((k : ℕ) → has l.m k ≡ (ltb k l.t && is_judged l.n l.r (get_or l.rounds k 0))) × (l.m < 2 ^ 64)
+
+abbrev pub decreases-loop-t : goal.decreases-loop-t
+decreases-loop-t l = 64 - l.t

@@ -1,0 +1,18 @@
+use Rattle.pipeline.proofs.Rounding.{close_is}
+use Rattle.std.proofs.Common.{rules}
+use Rattle.pipeline.proofs.pipeline.close_round.Goals as goal
+
+pub returns : goal.returns
+returns c =
+    close_is _ _ _ _ _ _
+    c.state_sets-s.ensures
+    c.parts-parts.ensures
+    c.deliver_all-payloads.ensures
+    c.join-holding.ensures
+    c.count_covered-covered.ensures
+    c.process_at-g.ensures
+    c.shortest_log-done.ensures
+    c.progress_all-nodes.ensures
+    c.stops-stop.ensures
+    c.count_round-metrics.ensures
+    c.next_round-round.ensures

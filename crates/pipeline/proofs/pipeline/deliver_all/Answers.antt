@@ -1,0 +1,23 @@
+use Rattle.std.proofs.Common.{◌≡◌, ◌-◌, ◌^◌, ◌<◌, refl, arith, rules}
+use Rattle.marks.specs.Marks.{count_of}
+use Rattle.marks.specs.Sets.{lowest_lt}
+use Rattle.engines.specs.Marked.{over_marks}
+use Rattle.engines.proofs.Marking.{without, over_less, over_turn, over_none}
+use Rattle.pipeline.specs.Round.{deliver_at, deliver_all}
+use Rattle.pipeline.proofs.pipeline.deliver_all.Goals as goal
+
+pub loop-left-init : goal.loop-left-init
+loop-left-init c = (omega arith, refl)
+
+pub bounds-ps-i : goal.bounds-ps-i
+bounds-ps-i c = lowest_lt _ _ c.loop-left.invariant.0 c.loop-left-test.true c.lowest_mark-i.ensures
+
+pub loop-left-smaller : goal.loop-left-smaller
+loop-left-smaller c = over_less (without _ _ _ c.loop-left.invariant.0 c.loop-left-test.true c.lowest_mark-i.ensures c.without_mark-left.ensures)
+
+pub loop-left-preserved : goal.loop-left-preserved
+loop-left-preserved c = (omega arith, over_turn _ (without _ _ _ c.loop-left.invariant.0 c.loop-left-test.true c.lowest_mark-i.ensures c.without_mark-left.ensures) refl c.loop-left.invariant.1)
+
+pub returns : goal.returns
+unfolding deliver_all
+returns c = over_none _ c.loop-left-test.false c.loop-left.invariant.1

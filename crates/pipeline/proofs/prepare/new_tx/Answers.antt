@@ -1,0 +1,5 @@
+use Rattle.std.proofs.Common.{rules}
+use Rattle.pipeline.proofs.prepare.new_tx.Goals as goal
+
+pub returns : goal.returns
+returns c = rw (c.open_tx.ensures, c.vote-v.ensures)

@@ -1,0 +1,5 @@
+use Rattle.std.proofs.Common.{rules}
+use Rattle.pipeline.proofs.prepare.with_unless.Goals as goal
+
+pub returns : goal.returns
+returns c = rw (c.if-abort.false, c.with.ensures)

@@ -1,0 +1,13 @@
+use Rattle.std.proofs.Common.{◌≡◌, ◌-◌, ◌^◌, ◌<◌, refl, arith, rules}
+use Rattle.marks.specs.Marks.{count_of}
+use Rattle.marks.specs.Sets.{lowest_lt}
+use Rattle.engines.specs.Marked.{over_marks}
+use Rattle.engines.proofs.Marking.{without, over_less, over_turn, over_none}
+use Rattle.pipeline.specs.Pipeline.{process_at, process_all}
+use Rattle.pipeline.proofs.process.process_all.Given as goal
+
+abbrev pub invariant-loop-left : goal.invariant-loop-left
+invariant-loop-left l = (l.left < 2 ^ 64) × (over_marks l.left (process_at l.words l.p l.facts l.rounds l.q) (record { states = l.ss; carried = l.m }) ≡ over_marks l.parts (process_at l.words l.p l.facts l.rounds l.q) (record { states = l.initial.ss; carried = l.initial.m }))
+
+abbrev pub decreases-loop-left : goal.decreases-loop-left
+decreases-loop-left l = count_of l.left 64

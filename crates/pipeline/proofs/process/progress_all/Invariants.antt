@@ -1,0 +1,10 @@
+use Rattle.std.proofs.Common.{◌≡◌, ◌-◌, ◌≤◌, rules}
+use Rattle.loops.specs.Upto.{upto, upto_none, upto_turn, upto_all}
+use Rattle.pipeline.specs.Pipeline.{progress_at, progress_all}
+use Rattle.pipeline.proofs.process.progress_all.Given as goal
+
+abbrev pub invariant-loop-i : goal.invariant-loop-i
+invariant-loop-i l = (l.i ≤ l.count) × (l.a ≡ upto l.i (progress_at l.num_txs l.done l.states) l.initial.a)
+
+abbrev pub decreases-loop-i : goal.decreases-loop-i
+decreases-loop-i l = l.count - l.i

@@ -1,0 +1,10 @@
+use Rattle.std.proofs.Common.{◌≡◌, ◌-◌, ◌≤◌, rules}
+use Rattle.loops.specs.Upto.{upto, upto_none, upto_turn, upto_all}
+use Rattle.pipeline.specs.Pipeline.{shorter_at, shortest_log}
+use Rattle.pipeline.proofs.process.shortest_log.Given as goal
+
+abbrev pub invariant-loop-i : goal.invariant-loop-i
+invariant-loop-i l = (l.i ≤ l.count) × (l.m ≡ upto l.i (shorter_at l.states) 64)
+
+abbrev pub decreases-loop-i : goal.decreases-loop-i
+decreases-loop-i l = l.count - l.i
