@@ -1,0 +1,15 @@
+use mathlib.Core.Path.{◌≡◌, ◌∙◌}
+use Prim.Native.Nat.{◌≤◌, ◌-◌}
+use native.Mathlib.Omega.{arith}
+use lib.ListN.{get_or}
+use Rattle.loops.specs.Table.{filled, filled_none, filled_turn, filled_all}
+use Rattle.engines_c.specs.Console.{links_of}
+use Rattle.engines_c.proofs.Storing.{filled_whole}
+use borrow.Author.Rules.{rules}
+use Rattle.engines_c.proofs.console.links_of.Given as goal
+
+abbrev pub invariant-loop-i : goal.invariant-loop-i
+invariant-loop-i l = (l.i ≤ 64) × (l.a ≡ filled 0 64 l.i (λ j. get_or l.links j 0))
+
+abbrev pub decreases-loop-i : goal.decreases-loop-i
+decreases-loop-i l = 64 - l.i

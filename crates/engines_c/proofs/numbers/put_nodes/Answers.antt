@@ -1,0 +1,26 @@
+use mathlib.Core.Path.{◌≡◌, ap, ◌∙◌}
+use Prim.Native.Nat.{◌+◌, ◌*◌, ◌≤◌, ◌-◌}
+use native.Mathlib.Omega.{arith}
+use lib.ListN.{length, get_or}
+use lib.Seq.{length-sets}
+use borrow.Author.Rules.{rules}
+use Rattle.loops.specs.Upto.{upto, upto_none, upto_turn, upto_all, upto_keeps}
+use Rattle.engines.specs.Nodes.{no_node}
+use Rattle.engines_c.specs.Numbers.{node_numbers, put_node, put_nodes}
+use Rattle.engines_c.proofs.numbers.put_nodes.Goals as goal
+
+pub loop-i-init : goal.loop-i-init
+loop-i-init c = (omega arith, upto_none _ _)
+
+pub loop-i-preserved : goal.loop-i-preserved
+loop-i-preserved c = (omega arith, upto_turn _ _ c.loop-i.invariant.1 c.put_node.ensures)
+
+pub shape_of-xs : goal.shape_of-xs
+shape_of-xs c =
+    ap length c.loop-i.invariant.1 ∙
+    upto_keeps length (put_node c.args.at c.args.nodes) c.args.xs.now c.loop-i.i
+    (λ i t. length-sets t (c.args.at + i * 8) (node_numbers (get_or c.args.nodes i no_node)))
+
+pub returns : goal.returns
+unfolding put_nodes
+returns c = upto_all _ _ c.loop-i.invariant.0 c.loop-i-test.false c.loop-i.invariant.1

@@ -1,0 +1,14 @@
+use mathlib.Core.Path.{◌≡◌, ◌∙◌}
+use Prim.Native.Nat.{◌*◌, ◌≤◌, ◌-◌}
+use native.Mathlib.Omega.{arith}
+use Rattle.loops.specs.Table.{filled, filled_none, filled_turn, filled_all}
+use Rattle.engines_c.specs.Payloads.{payload_at, held_at}
+use Rattle.engines_c.proofs.Storing.{filled_whole}
+use borrow.Author.Rules.{rules}
+use Rattle.engines_c.proofs.payloads.held_of.Given as goal
+
+abbrev pub invariant-loop-i : goal.invariant-loop-i
+invariant-loop-i l = (l.i ≤ 64) × (l.a ≡ filled (payload_at l.xs l.at 0) 64 l.i (λ j. payload_at l.xs l.at (j * 38)))
+
+abbrev pub decreases-loop-i : goal.decreases-loop-i
+decreases-loop-i l = 64 - l.i
