@@ -3,6 +3,7 @@ use native.Mathlib.Omega.{arith}
 use Rattle.room_c.proofs.Making.{proposed, captured, piped, whole_read, part_read, none_made}
 use borrow.Author.Rules.{rules}
 use Rattle.room_c.proofs.console.call.Goals as goal
+use Rattle.room_c.proofs.console.call.Goals.{in_default-via-then-which-lt1, in_default-via-else-which-lt1+else-which-lt18+else-which-lt24}
 
 pub returns-in-1 : goal.returns-in-1
 returns-in-1 c = proposed _ _ _ _ _ _ _ c.in-1.is c.propose.ensures.value c.propose.ensures.told_after
@@ -21,5 +22,9 @@ returns-in-18-to-23 c = part_read _ _ _ _ _ _ _ (omega arith) (omega arith) (c.r
 
 pub returns-in_default : goal.returns-in_default
 returns-in_default c =
-    none_made _ _ _ _ _ _ _ (⊎_elim (λ w. inl (omega arith)) (λ w. inr (omega arith)) c.in_default.branch)
+    none_made _ _ _ _ _ _ _
+    (elim c.in_default.branch [
+      in_default-via-then-which-lt1 w ↦ inl (omega arith)
+    | in_default-via-else-which-lt1+else-which-lt18+else-which-lt24 w ↦ inr (omega arith)
+    ])
     c.put.ensures

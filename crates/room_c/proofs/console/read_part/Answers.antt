@@ -31,7 +31,7 @@ returns-in-22 c = rw c.in-22.is (record { told_after = c.tell_pending.ensures �
 pub returns-in_default : goal.returns-in_default
 unfolding said answer_of
 returns-in_default c =
-    let h : 23 ≤ k = past c.args.which 18 5 c.requires c.in_default.in_default-own.rest in
+    let h : 23 ≤ c.args.which = past c.args.which 18 5 c.requires c.in_default.in_default-own.rest in
     let all = part_readings c.args.text.now c.args.a c.args.b in
     rw (get_d_last all («record» c.args.a) 5 (c.args.which - 18) (omega arith) refl (omega arith))
     (record { told_after = c.tell_record.ensures ∙ rw c.record.ensures; text_after = refl })

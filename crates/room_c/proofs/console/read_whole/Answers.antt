@@ -63,6 +63,6 @@ returns-in-16 c = rw c.in-16.is (record { told_after = c.tell_number-in-16.ensur
 pub returns-in_default : goal.returns-in_default
 unfolding said answer_of
 returns-in_default c =
-    let h : 17 ≤ k = past c.args.which 4 13 c.requires c.in_default.in_default-own.rest in
+    let h : 17 ≤ c.args.which = past c.args.which 4 13 c.requires c.in_default.in_default-own.rest in
     rw (get_d_last whole_readings proposal_outcome 13 (c.args.which - 4) (omega arith) refl (omega arith))
     (record { told_after = c.tell_outcome.ensures ∙ rw c.proposal_outcome.ensures; floats_after = refl })
