@@ -37,9 +37,9 @@ room_limits =
     record {
       positions = limit.positions;
       transactions = limit.transactions;
-      last_slot = limit.lastSlot;
-      bitmap_entries = limit.bitmapEntries;
-      data_bytes = limit.dataBytes;
+      last_slot = limit.last_slot;
+      bitmap_entries = limit.bitmap_entries;
+      data_bytes = limit.data_bytes;
     }
 
 abbrev pub size_of : Room → ℕ

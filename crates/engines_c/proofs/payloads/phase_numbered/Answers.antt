@@ -7,7 +7,7 @@ returns-then-n-eq0 c =
     (eq-eqb
     _
     _
-    c.if-n-eq0.taken)
+    c.if-n-eq0.true)
 
 pub returns-then-n-eq1 : goal.returns-then-n-eq1
 returns-then-n-eq1 c =
@@ -15,11 +15,11 @@ returns-then-n-eq1 c =
       ne_eqb
           _
           _
-          c.if-n-eq0.left,
+          c.if-n-eq0.false,
       eq-eqb
           _
           _
-          c.if-n-eq1.taken,
+          c.if-n-eq1.true,
     )
 
 pub returns : goal.returns
@@ -28,9 +28,9 @@ returns c =
       ne_eqb
           _
           _
-          c.if-n-eq0.left,
+          c.if-n-eq0.false,
       ne_eqb
           _
           _
-          c.if-n-eq1.left,
+          c.if-n-eq1.false,
     )

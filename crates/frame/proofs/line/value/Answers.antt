@@ -1,0 +1,6 @@
+use Rattle.frame.proofs.Digits.{value_is}
+use borrow.Author.Rules.{rules}
+use Rattle.frame.proofs.line.value.Goals as goal
+
+pub returns : goal.returns
+returns c = value_is c.args.b c.requires

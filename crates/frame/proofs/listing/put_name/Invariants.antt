@@ -1,0 +1,16 @@
+use Rattle.frame.specs.Listing.{name_of}
+use Rattle.frame.proofs.Texts.{name_start, name_length_lem, name_more, name_done}
+use Rattle.frame.proofs.Digits.{byte_lt}
+use Rattle.texts.specs.Put.{Put}
+use lib.ListN.{length}
+use native.Mathlib.Omega.{arith}
+use mathlib.Core.Path.{◌≡◌, refl, ◌∙◌}
+use Prim.Native.Nat.{◌≤◌, ◌-◌}
+use borrow.Author.Rules.{rules}
+use Rattle.frame.proofs.listing.put_name.Given as goal
+
+abbrev pub invariant-loop-k : goal.invariant-loop-k
+invariant-loop-k l = (l.k ≤ l.n) × (length l.out ≡ length l.initial.out) × Put l.initial.out 0 (name_of l.s l.k) l.o l.out
+
+abbrev pub decreases-loop-k : goal.decreases-loop-k
+decreases-loop-k l = l.n - l.k

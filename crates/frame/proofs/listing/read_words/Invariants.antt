@@ -1,0 +1,15 @@
+use mathlib.Core.Path.{◌≡◌, refl}
+use Prim.Native.Nat.{◌≤◌, ◌-◌}
+use native.Mathlib.Omega.{arith}
+use lib.ListN.{length, length-set}
+use Rattle.loops.specs.Table.{tabulate}
+use Rattle.texts.specs.Put.{Put}
+use Rattle.frame.proofs.Playing.{word_at, words_start, words_more, words_stored}
+use borrow.Author.Rules.{rules}
+use Rattle.frame.proofs.listing.read_words.Given as goal
+
+abbrev pub invariant-loop-k : goal.invariant-loop-k
+invariant-loop-k l = (l.k ≤ l.count) × (length l.words ≡ length l.initial.words) × Put l.initial.words 0 (tabulate l.k (word_at l.s l.i)) l.k l.words
+
+abbrev pub decreases-loop-k : goal.decreases-loop-k
+decreases-loop-k l = l.count - l.k

@@ -1,0 +1,5 @@
+use borrow.Author.Rules.{rules}
+use Rattle.frame.proofs.play.new_ran.Goals as goal
+
+pub returns : goal.returns
+returns c = rw (c.new-2.ensures, c.new.ensures)

@@ -1,0 +1,14 @@
+use mathlib.Core.Path.{◌≡◌, refl, sym, ◌∙◌}
+use borrow.Author.Rules.{rules}
+use Rattle.loops.specs.Runs.{runs, runs_none, runs_stop, runs_turn}
+use mathlib.Core.Bool.{not, ◌||◌}
+use lib.Dec.{eqb}
+use Rattle.pipeline.specs.declared.pipeline.PipelineAnswer.{PipelineAnswer}
+use Rattle.frame.specs.Play.{is_done, pipeline_turn, play_pipeline}
+use Rattle.frame.proofs.play.play_pipeline.Given as goal
+
+abbrev pub invariant-loop-left : goal.invariant-loop-left
+invariant-loop-left l = runs is_done (pipeline_turn l.words l.conf) l.left l.s ≡ runs is_done (pipeline_turn l.words l.conf) l.initial.left l.initial.s
+
+abbrev pub decreases-loop-left : goal.decreases-loop-left
+decreases-loop-left l = l.left

@@ -1,0 +1,6 @@
+use Rattle.texts.specs.Put.{put_byte}
+use borrow.Author.Rules.{rules}
+use Rattle.frame.proofs.put.put_byte.Goals as goal
+
+pub returns : goal.returns
+returns c = put_byte c.args.buf.now c.args.at c.args.b c.requires

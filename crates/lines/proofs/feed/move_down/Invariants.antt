@@ -1,0 +1,14 @@
+use mathlib.Core.Path.{◌≡◌, refl}
+use Prim.Native.Nat.{◌≤◌, ◌-◌}
+use native.Mathlib.Omega.{arith}
+use lib.ListN.{length, length-set}
+use Rattle.texts.specs.Put.{Put}
+use Rattle.lines.proofs.Moves.{moved, move_start, move_more, move_done}
+use borrow.Author.Rules.{rules}
+use Rattle.lines.proofs.feed.move_down.Given as goal
+
+abbrev pub invariant-loop-k : goal.invariant-loop-k
+invariant-loop-k l = (l.k ≤ l.n) × (length l.text ≡ length l.initial.text) × Put l.initial.text 0 (moved l.initial.text l.from l.k) l.k l.text
+
+abbrev pub decreases-loop-k : goal.decreases-loop-k
+decreases-loop-k l = l.n - l.k

@@ -1,0 +1,7 @@
+use Rattle.std.proofs.Common.{refl, rules}
+use Rattle.pipeline_c.specs.Console.{clock_numbers}
+use Rattle.pipeline_c.proofs.console.clock_numbers.Goals as goal
+
+pub returns : goal.returns
+unfolding clock_numbers
+returns c = refl

@@ -1,0 +1,11 @@
+use Rattle.engines_c.proofs.Storing.{filled_whole}
+use Rattle.loops.specs.Table.{filled, filled_none, filled_turn, filled_all}
+use Rattle.std.proofs.Common.{◌≡◌, ◌+◌, ◌-◌, ◌*◌, ◌≤◌, ◌∙◌, arith, rules}
+use Rattle.pipeline_c.specs.Console.{packet_at, packets_at}
+use Rattle.pipeline_c.proofs.console.packets_of.Given as goal
+
+abbrev pub invariant-loop-i : goal.invariant-loop-i
+invariant-loop-i l = (l.i ≤ 64) × (l.a ≡ filled (packet_at l.xs 0) 64 l.i (λ j. packet_at l.xs (9173 + j * 9)))
+
+abbrev pub decreases-loop-i : goal.decreases-loop-i
+decreases-loop-i l = 64 - l.i

@@ -1,0 +1,5 @@
+use Rattle.std.proofs.Common.{rules}
+use Rattle.pipeline_c.proofs.console.pipeline_flood_length.Goals as goal
+
+pub returns : goal.returns
+returns c = rw (← c.is_yes.ensures) c.flood_length.ensures

@@ -1,0 +1,5 @@
+use Rattle.std.proofs.Common.{rules}
+use Rattle.pipeline_c.proofs.console.put_packet.Goals as goal
+
+pub returns : goal.returns
+returns c = rw (c.put_run.ensures, c.packet_numbers-values.ensures)

@@ -1,0 +1,11 @@
+use Rattle.std.proofs.Common.{◌≡◌, ◌+◌, ◌-◌, ◌≤◌, get_or, ◌∙◌, arith, rules}
+use Rattle.engines_c.proofs.Storing.{filled_whole}
+use Rattle.loops.specs.Table.{filled, filled_none, filled_turn, filled_all}
+use Rattle.pipeline_c.specs.Console.{words_at}
+use Rattle.pipeline_c.proofs.console.words_of.Given as goal
+
+abbrev pub invariant-loop-i : goal.invariant-loop-i
+invariant-loop-i l = (l.i ≤ 64) × (l.a ≡ filled 0 64 l.i (λ j. get_or l.xs (l.at + j) 0))
+
+abbrev pub decreases-loop-i : goal.decreases-loop-i
+decreases-loop-i l = 64 - l.i

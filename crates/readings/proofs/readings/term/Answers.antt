@@ -1,0 +1,5 @@
+use borrow.Author.Rules.{rules}
+use Rattle.readings.proofs.readings.term.Goals as goal
+
+pub returns : goal.returns
+returns c = rw (c.number.ensures, c.capture_only.ensures)

@@ -1,0 +1,5 @@
+use Rattle.std.proofs.Common.{rules}
+use Rattle.room.proofs.room.conf_of.Goals as goal
+
+pub returns : goal.returns
+returns c = rw c.round_length-length.ensures

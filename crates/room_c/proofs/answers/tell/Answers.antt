@@ -1,0 +1,7 @@
+use mathlib.Core.Path.{◌∙◌}
+use native.Mathlib.Nat.{add-zero}
+use borrow.Author.Rules.{rules}
+use Rattle.room_c.proofs.answers.tell.Goals as goal
+
+pub returns : goal.returns
+returns c = c.put_run.ensures ∙ rw add-zero

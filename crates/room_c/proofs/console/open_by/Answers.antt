@@ -1,0 +1,24 @@
+use borrow.Author.Tests.{eq-eqb, ne_eqb}
+use Rattle.room_c.specs.Console.{opening_by}
+use borrow.Author.Rules.{rules}
+use Rattle.room_c.proofs.console.open_by.Goals as goal
+
+pub returns-then-b-eq0 : goal.returns-then-b-eq0
+unfolding opening_by
+returns-then-b-eq0 c =
+    rw (
+      ← c.from_rows-b.ensures,
+      ← c.asked_by-asked.ensures,
+      ← c.open-o.ensures,
+      eq-eqb _ _ c.if-b-eq0.true,
+    )
+
+pub returns : goal.returns
+unfolding opening_by
+returns c =
+    rw (
+      ← c.from_rows-b.ensures,
+      ← c.asked_by-asked.ensures,
+      ← c.open-o.ensures,
+      ne_eqb _ _ c.if-b-eq0.false,
+    )
