@@ -9,6 +9,8 @@
 //   4 initiator slots numbers    a round, with room for that many numbers of rows
 // The answer to 4 is the refusal, the first six numbers of the state, recoveries, frames tried and heard, and a digest
 // of the whole state and of the rows.
+#![tactic(auto)]
+
 ghost use Rattle.std.specs.Prelude.{◌≤◌};
 
 use engines_c::{console, numbers, payloads};
@@ -16,6 +18,8 @@ use graph::network::NetworkGraph;
 use merges::merging;
 use merges::merging::{Held, Payload};
 use merges::votes::Voting;
+use std::io;
+use std::io::Read;
 
 // The numbers of a line, and the number that is being read.
 #[derive(Clone, Copy)]
@@ -84,28 +88,22 @@ fn abort_of(n: u64) -> f64 {
 }
 
 fn fill(xs: &mut [u64], v: u64) {
-    let mut i: usize = 0;
-    while i < xs.len() {
+    for i in 0..xs.len() {
         numbers::put(xs, i, v);
-        i += 1;
     }
 }
 
 fn count_up(xs: &mut [u64], first: u64, step: u64) {
     let mut w = first;
-    let mut i: usize = 0;
-    while i < xs.len() {
+    for i in 0..xs.len() {
         numbers::put(xs, i, w);
         w = std::num::wrapping_add_u64(w, step);
-        i += 1;
     }
 }
 
 fn copy(xs: &mut [u64], from: &[u64]) {
-    let mut i: usize = 0;
-    while i < xs.len() {
+    for i in 0..xs.len() {
         numbers::put(xs, i, numbers::number(from, i));
-        i += 1;
     }
 }
 
@@ -115,10 +113,8 @@ fn mix(h: u64, x: u64) -> u64 {
 
 fn digest(xs: &[u64]) -> u64 {
     let mut h: u64 = 0;
-    let mut i: usize = 0;
-    while i < xs.len() {
-        h = mix(h, xs[i]);
-        i += 1;
+    for x in xs {
+        h = mix(h, *x);
     }
     h
 }
@@ -148,25 +144,24 @@ fn propose(at: &[u64; 16], room: &[u64], state: &mut [u64]) {
     payloads::put_held(state, 528, held);
 }
 
-fn say(n: u64) {
-    io::write_all(1, b" ");
-    io::print_decimal(1, n);
+fn say(rt: &impl Print, n: u64) -> io::Result<()> {
+    print!(rt; " {n}")
 }
 
-fn say_state(refusal: u64, state: &[u64], rows: &[u64]) {
-    io::print_decimal(1, refusal);
-    say(numbers::number(state, 0));
-    say(numbers::number(state, 1));
-    say(numbers::number(state, 2));
-    say(numbers::number(state, 3));
-    say(numbers::number(state, 4));
-    say(numbers::number(state, 5));
-    say(numbers::number(state, 10));
-    say(numbers::number(state, 11));
-    say(numbers::number(state, 12));
-    say(digest(state));
-    say(digest(rows));
-    io::write_all(1, b"\n");
+fn say_state(rt: &impl Print, refusal: u64, state: &[u64], rows: &[u64]) -> io::Result<()> {
+    print!(rt; "{refusal}")?;
+    say(rt, numbers::number(state, 0))?;
+    say(rt, numbers::number(state, 1))?;
+    say(rt, numbers::number(state, 2))?;
+    say(rt, numbers::number(state, 3))?;
+    say(rt, numbers::number(state, 4))?;
+    say(rt, numbers::number(state, 5))?;
+    say(rt, numbers::number(state, 10))?;
+    say(rt, numbers::number(state, 11))?;
+    say(rt, numbers::number(state, 12))?;
+    say(rt, digest(state))?;
+    say(rt, digest(rows))?;
+    println!(rt)
 }
 
 fn round(
@@ -196,35 +191,38 @@ fn round(
 }
 
 fn play(
+    rt: &impl Print,
     at: &[u64; 16],
     room: &[u64],
     state: &mut [u64],
     words: &[u64],
     links: &[u64],
     rows: &mut [u64],
-) {
+) -> io::Result<()> {
     fill(rows, 7);
     let refusal = round(at, room, state, words, links, rows);
-    say_state(refusal, state, rows);
+    say_state(rt, refusal, state, rows)
 }
 
 fn answer(
+    rt: &impl Print,
     l: Line,
     room: &mut [u64],
     state: &mut [u64],
     words: &mut [u64],
     links: &mut [u64],
     rows: &mut [u64],
-) {
+) -> io::Result<()> {
     let at = l.at;
     let kind = at[0];
     match kind {
         1 => open(&at, room, state, words, links),
         2 => propose(&at, room, state),
         3 => numbers::put(state, at[1] as usize, at[2]),
-        4 => play(&at, room, state, words, links, rows),
+        4 => play(rt, &at, room, state, words, links, rows)?,
         _ => {}
     }
+    Ok(())
 }
 
 fn byte_at(text: &[u8], i: usize) -> u8 {
@@ -235,6 +233,7 @@ fn byte_at(text: &[u8], i: usize) -> u8 {
 }
 
 fn feed(
+    rt: &impl Print,
     l: Line,
     b: u8,
     room: &mut [u64],
@@ -242,33 +241,32 @@ fn feed(
     words: &mut [u64],
     links: &mut [u64],
     rows: &mut [u64],
-) -> Line {
+) -> io::Result<Line> {
     match b {
         10 => {
-            answer(with_number(l), room, state, words, links, rows);
-            empty_line()
+            answer(rt, with_number(l), room, state, words, links, rows)?;
+            Ok(empty_line())
         }
-        32 => with_number(l),
-        48..=57 => with_digit(l, (b - 48) as u64),
-        _ => l,
+        32 => Ok(with_number(l)),
+        48..=57 => Ok(with_digit(l, (b - 48) as u64)),
+        _ => Ok(l),
     }
 }
 
-fn main() {
-    let mut text = io::large_buffer();
-    let n = io::read_full(0, &mut text);
+fn main(rt: HostRuntime) -> io::Result<()> {
+    let mut text = Vec::new(rt.alloc());
+    rt.reader().read_to_end(&mut text)?;
     let mut room = [0u64; 16];
     let mut state = [0u64; 2960];
     let mut words = [0u64; 4096];
     let mut links = [0u64; limits::POSITIONS];
     let mut rows = [0u64; 600];
     let mut l = empty_line();
-    let mut i: usize = 0;
-    while i < n {
+    for i in 0..text.len() {
         let b = byte_at(&text, i);
         l = feed(
-            l, b, &mut room, &mut state, &mut words, &mut links, &mut rows,
-        );
-        i += 1;
+            &rt, l, b, &mut room, &mut state, &mut words, &mut links, &mut rows,
+        )?;
     }
+    Ok(())
 }

@@ -4,9 +4,13 @@
 //   2 topology n argument       the rows of a topology, and its diameter
 //   3 i j n row0 .. row(n-1)    whether j hears i, and whether what i sends can come to j
 // The answer is a refusal number alone, or 0 and the numbers asked for.
+#![tactic(auto)]
+
 ghost use Rattle.std.specs.Prelude.{◌≤◌};
 
 use graph::network::{Built, NetworkGraph};
+use std::io;
+use std::io::Read;
 
 // The numbers of a line, and the number that is being read.
 #[derive(Clone, Copy)]
@@ -46,9 +50,8 @@ fn with_number(l: Line) -> Line {
     r
 }
 
-fn say(n: u64) {
-    io::write_all(1, b" ");
-    io::print_decimal(1, n);
+fn say(rt: &impl Print, n: u64) -> io::Result<()> {
+    print!(rt; " {n}")
 }
 
 // At most 70 rows: more than a graph may have.
@@ -61,18 +64,18 @@ fn size_of(n: u64) -> usize
     70
 }
 
-fn say_at(list: &[u64], i: usize) {
+fn say_at(rt: &impl Print, list: &[u64], i: usize) -> io::Result<()> {
     if i < list.len() {
-        say(list[i]);
+        say(rt, list[i])?;
     }
+    Ok(())
 }
 
-fn say_first(list: &[u64], n: usize) {
-    let mut i: usize = 0;
-    while i < n {
-        say_at(list, i);
-        i += 1;
+fn say_first(rt: &impl Print, list: &[u64], n: usize) -> io::Result<()> {
+    for i in 0..n {
+        say_at(rt, list, i)?;
     }
+    Ok(())
 }
 
 // The graph whose rows stand from place k on.
@@ -87,7 +90,7 @@ fn graph_at(at: &[u64], k: usize, n: usize) -> Built {
     NetworkGraph::from_rows(&at[k..end])
 }
 
-fn ask_graph(l: Line) {
+fn ask_graph(rt: &impl Print, l: Line) -> io::Result<()> {
     let at = l.at;
     let n = size_of(at[2]);
     let b = graph_at(&at, 3, n);
@@ -96,80 +99,75 @@ fn ask_graph(l: Line) {
     let list = g.neighbors(at[1] as usize);
     let listed = list.refusal;
     if refusal != 0 {
-        io::print_decimal(1, refusal);
-        return;
+        return print!(rt; "{refusal}");
     }
     if listed != 0 {
-        io::print_decimal(1, listed);
-        return;
+        return print!(rt; "{listed}");
     }
-    io::print_decimal(1, 0);
+    print!(rt; "0")?;
     let d = g.diameter();
-    say(d.links as u64);
-    say(list.count as u64);
+    say(rt, d.links as u64)?;
+    say(rt, list.count as u64)?;
     let who = list.at;
-    say_first(&who, list.count);
+    say_first(rt, &who, list.count)
 }
 
-fn ask_topology(l: Line) {
+fn ask_topology(rt: &impl Print, l: Line) -> io::Result<()> {
     let at = l.at;
     let b = NetworkGraph::from_topology(at[1], at[2] as usize, at[3] as usize);
     let refusal = b.refusal;
     if refusal != 0 {
-        io::print_decimal(1, refusal);
-        return;
+        return print!(rt; "{refusal}");
     }
-    io::print_decimal(1, 0);
+    print!(rt; "0")?;
     let g = b.graph;
     let d = g.diameter();
-    say(d.links as u64);
+    say(rt, d.links as u64)?;
     let adj = g.adj;
-    say_first(&adj, g.n);
+    say_first(rt, &adj, g.n)
 }
 
-fn ask_pair(l: Line) {
+fn ask_pair(rt: &impl Print, l: Line) -> io::Result<()> {
     let at = l.at;
     let n = size_of(at[3]);
     let b = graph_at(&at, 4, n);
     let refusal = b.refusal;
     if refusal != 0 {
-        io::print_decimal(1, refusal);
-        return;
+        return print!(rt; "{refusal}");
     }
     let g = b.graph;
     let link = g.has_link(at[1] as usize, at[2] as usize);
     let reach = g.reaches(at[1] as usize, at[2] as usize);
     let tested = link.refusal;
     if tested != 0 {
-        io::print_decimal(1, tested);
-        return;
+        return print!(rt; "{tested}");
     }
-    io::print_decimal(1, 0);
-    say(link.holds as u64);
-    say(reach.holds as u64);
+    print!(rt; "0")?;
+    say(rt, link.holds as u64)?;
+    say(rt, reach.holds as u64)
 }
 
-fn answer(l: Line) {
+fn answer(rt: &impl Print, l: Line) -> io::Result<()> {
     let at = l.at;
     let kind = at[0];
     match kind {
-        1 => ask_graph(l),
-        2 => ask_topology(l),
-        3 => ask_pair(l),
+        1 => ask_graph(rt, l)?,
+        2 => ask_topology(rt, l)?,
+        3 => ask_pair(rt, l)?,
         _ => {}
     }
-    io::write_all(1, b"\n");
+    println!(rt)
 }
 
-fn feed(l: Line, b: u8) -> Line {
+fn feed(rt: &impl Print, l: Line, b: u8) -> io::Result<Line> {
     match b {
         10 => {
-            answer(with_number(l));
-            empty_line()
+            answer(rt, with_number(l))?;
+            Ok(empty_line())
         }
-        32 => with_number(l),
-        48..=57 => with_digit(l, (b - 48) as u64),
-        _ => l,
+        32 => Ok(with_number(l)),
+        48..=57 => Ok(with_digit(l, (b - 48) as u64)),
+        _ => Ok(l),
     }
 }
 
@@ -180,13 +178,12 @@ fn byte_at(text: &[u8], i: usize) -> u8 {
     0
 }
 
-fn main() {
-    let mut text = io::large_buffer();
-    let n = io::read_full(0, &mut text);
+fn main(rt: HostRuntime) -> io::Result<()> {
+    let mut text = Vec::new(rt.alloc());
+    rt.reader().read_to_end(&mut text)?;
     let mut l = empty_line();
-    let mut i: usize = 0;
-    while i < n {
-        l = feed(l, byte_at(&text, i));
-        i += 1;
+    for i in 0..text.len() {
+        l = feed(&rt, l, byte_at(&text, i))?;
     }
+    Ok(())
 }

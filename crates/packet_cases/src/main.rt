@@ -16,11 +16,15 @@
 // and 6 is the place behind what was written, and the whole buffer, where a dot is a byte that nobody wrote; or the
 // refusal, and the buffer if it is the writing that was refused. The answer to 5 is 1 if there was news, 0 if not, and
 // the local text afterwards.
+#![tactic(auto)]
+
 ghost use Rattle.std.specs.Prelude.{◌≡◌, ◌≤◌, length};
 ghost use Rattle.std.specs.Float.{binary64};
 ghost use Rattle.std.specs.Float.Ieee.{nan_bits};
 
 use packets_c::{console, desk};
+use std::io;
+use std::io::Read;
 
 // Where the words of a line start and end, and where the word that is being read starts.
 #[derive(Clone, Copy)]
@@ -83,20 +87,16 @@ fn with_digit(v: u64, b: u8) -> u64 {
 
 fn number(digits: &[u8]) -> u64 {
     let mut v: u64 = 0;
-    let mut i: usize = 0;
-    while i < digits.len() {
-        v = with_digit(v, digits[i]);
-        i += 1;
+    for b in digits {
+        v = with_digit(v, *b);
     }
     v
 }
 
 fn numbers_of(text: &[u8], l: Line) -> [u64; 16] {
     let mut at = [0u64; 16];
-    let mut i: usize = 0;
-    while i < 16 {
+    for i in 0..16 {
         at[i] = number(word(text, l, i));
-        i += 1;
     }
     at
 }
@@ -121,15 +121,11 @@ fn put(out: &mut [u8], i: usize, high: u8, low: u8) {
 fn bytes_of(digits: &[u8], out: &mut [u8]) -> usize
     ensures { result ≤ length out.old }
 {
-    let mut i: usize = 0;
-    while i < digits.len() / 2 {
-        if i >= out.len() {
-            return i;
-        }
+    let count = out.len().min(digits.len() / 2);
+    for i in 0..count {
         put(out, i, digits[2 * i], digits[2 * i + 1]);
-        i += 1;
     }
-    i
+    count
 }
 
 // The field of the exponent is full, and that of the digits is not 0.
@@ -160,72 +156,99 @@ fn at_most(n: u64, most: usize) -> usize
     most
 }
 
-fn say(s: &[u8]) {
-    io::write_all(1, s);
+fn say(rt: &impl Print, s: &[u8]) -> io::Result<()> {
+    rt.write_all(s)
 }
 
-fn say_refusal(n: u64) {
-    say(b"refusal ");
-    io::print_decimal(1, n);
+fn say_refusal(rt: &impl Print, n: u64) -> io::Result<()> {
+    print!(rt; "refusal {n}")
 }
 
-fn say_wrote(refusal: u64, next: u64, buf: &[u8]) {
+fn say_wrote(rt: &impl Print, refusal: u64, next: u64, buf: &[u8]) -> io::Result<()> {
     if refusal == 0 {
-        io::print_decimal(1, next);
+        print!(rt; "{next}")?;
     } else {
-        say_refusal(refusal);
+        say_refusal(rt, refusal)?;
     }
-    say(b" ");
-    say(buf);
+    say(rt, b" ")?;
+    say(rt, buf)
 }
 
-fn write_ce_into(buf: &mut [u8], data: &[u8], place: u64, numbers: &[u64]) {
+fn write_ce_into(
+    rt: &impl Print,
+    buf: &mut [u8],
+    data: &[u8],
+    place: u64,
+    numbers: &[u64],
+) -> io::Result<()> {
     let mut next: u64 = 0;
     let k = console::ce_packet_write(numbers, data, buf, place, &mut next);
-    say_wrote(k, next, buf);
+    say_wrote(rt, k, next, buf)
 }
 
-fn write_ce(data: &[u8], size: u64, place: u64, numbers: &[u64]) {
+fn write_ce(
+    rt: &impl Print,
+    data: &[u8],
+    size: u64,
+    place: u64,
+    numbers: &[u64],
+) -> io::Result<()> {
     let mut buf = [46u8; 1024];
     let end = at_most(size, 1024);
-    write_ce_into(&mut buf[0..end], data, place, numbers);
+    write_ce_into(rt, &mut buf[0..end], data, place, numbers)
 }
 
-fn write_pipeline_into(buf: &mut [u8], data: &[u8], place: u64, numbers: &[u64]) {
+fn write_pipeline_into(
+    rt: &impl Print,
+    buf: &mut [u8],
+    data: &[u8],
+    place: u64,
+    numbers: &[u64],
+) -> io::Result<()> {
     let mut next: u64 = 0;
     let k = console::pipeline_packet_write(numbers, data, buf, place, &mut next);
-    say_wrote(k, next, buf);
+    say_wrote(rt, k, next, buf)
 }
 
-fn write_pipeline(data: &[u8], size: u64, place: u64, numbers: &[u64]) {
+fn write_pipeline(
+    rt: &impl Print,
+    data: &[u8],
+    size: u64,
+    place: u64,
+    numbers: &[u64],
+) -> io::Result<()> {
     let mut buf = [46u8; 1024];
     let end = at_most(size, 1024);
-    write_pipeline_into(&mut buf[0..end], data, place, numbers);
+    write_pipeline_into(rt, &mut buf[0..end], data, place, numbers)
 }
 
-fn read_ce(text: &[u8], len: u64) {
+fn read_ce(rt: &impl Print, text: &[u8], len: u64) -> io::Result<()> {
     let mut numbers = [0u64; 5];
     let mut data = [0u8; 32];
     let k = console::ce_packet_read(text, len, &mut numbers, &mut data);
     if k != 0 {
-        say_refusal(k);
-        return;
+        return say_refusal(rt, k);
     }
-    write_ce(&data, std::num::wrapping_add_u64(len, 2), 1, &numbers);
+    write_ce(rt, &data, std::num::wrapping_add_u64(len, 2), 1, &numbers)
 }
 
-fn read_pipeline(text: &[u8], len: u64) {
+fn read_pipeline(rt: &impl Print, text: &[u8], len: u64) -> io::Result<()> {
     let mut numbers = [0u64; 12];
     let mut data = [0u8; 32];
     let k = console::pipeline_packet_read(text, len, &mut numbers, &mut data);
     if k != 0 {
-        say_refusal(k);
-        return;
+        return say_refusal(rt, k);
     }
-    write_pipeline(&data, std::num::wrapping_add_u64(len, 2), 1, &numbers);
+    write_pipeline(rt, &data, std::num::wrapping_add_u64(len, 2), 1, &numbers)
 }
 
-fn merge(local: &mut [u8], n: usize, digits: &[u8], at: &[u64; 16]) {
+fn merge(
+    rt: &impl Print,
+    local: &mut [u8],
+    n: usize,
+    digits: &[u8],
+    at: &[u64; 16],
+) -> io::Result<()> {
     let mut received = [46u8; 1024];
     let m = bytes_of(digits, &mut received) as u64;
     let abort = float_of(at[4]);
@@ -235,66 +258,63 @@ fn merge(local: &mut [u8], n: usize, digits: &[u8], at: &[u64; 16]) {
         local, &mut len, &received, m, at[3], at[6], abort, at[5], &mut news,
     );
     if k != 0 {
-        say_refusal(k);
-        return;
+        return say_refusal(rt, k);
     }
-    io::print_decimal(1, news);
-    say(b" ");
+    print!(rt; "{news} ")?;
     let end = at_most(len, local.len());
-    say(&local[0..end]);
+    say(rt, &local[0..end])
 }
 
-fn propose_into(buf: &mut [u8], at: &[u64; 16]) {
+fn propose_into(rt: &impl Print, buf: &mut [u8], at: &[u64; 16]) -> io::Result<()> {
     let abort = float_of(at[4]);
     let mut next: u64 = 0;
     let k = desk::ce_packet_propose(at[2], at[3], at[6], abort, at[5], buf, &mut next);
-    say_wrote(k, next, buf);
+    say_wrote(rt, k, next, buf)
 }
 
-fn propose(at: &[u64; 16]) {
+fn propose(rt: &impl Print, at: &[u64; 16]) -> io::Result<()> {
     let mut buf = [46u8; 1024];
     let end = at_most(at[1], 1024);
-    propose_into(&mut buf[0..end], at);
+    propose_into(rt, &mut buf[0..end], at)
 }
 
-fn answer(text: &[u8], l: Line) {
+fn answer(rt: &impl Print, text: &[u8], l: Line) -> io::Result<()> {
     let at = numbers_of(text, l);
     let mut bytes = [46u8; 1024];
     let n = bytes_of(word(text, l, 1), &mut bytes);
     match at[0] {
-        1 => read_ce(&bytes[0..n], at[2]),
-        2 => read_pipeline(&bytes[0..n], at[2]),
-        3 => write_ce(&bytes[0..n], at[2], at[3], &at[4..16]),
-        4 => write_pipeline(&bytes[0..n], at[2], at[3], &at[4..16]),
-        5 => merge(&mut bytes, n, word(text, l, 2), &at),
-        6 => propose(&at),
+        1 => read_ce(rt, &bytes[0..n], at[2])?,
+        2 => read_pipeline(rt, &bytes[0..n], at[2])?,
+        3 => write_ce(rt, &bytes[0..n], at[2], at[3], &at[4..16])?,
+        4 => write_pipeline(rt, &bytes[0..n], at[2], at[3], &at[4..16])?,
+        5 => merge(rt, &mut bytes, n, word(text, l, 2), &at)?,
+        6 => propose(rt, &at)?,
         _ => {}
     }
-    say(b"\n");
+    say(rt, b"\n")
 }
 
-fn feed(l: Line, text: &[u8], i: usize) -> Line {
+fn feed(rt: &impl Print, l: Line, text: &[u8], i: usize) -> io::Result<Line> {
     if i >= text.len() {
-        return l;
+        return Ok(l);
     }
     match text[i] {
         10 => {
-            answer(text, with_word(l, i, i + 1));
-            line_from(i + 1)
+            answer(rt, text, with_word(l, i, i + 1))?;
+            Ok(line_from(i + 1))
         }
-        32 => with_word(l, i, i + 1),
-        _ => l,
+        32 => Ok(with_word(l, i, i + 1)),
+        _ => Ok(l),
     }
 }
 
-// All of the questions are here at once. If there were more, the last would have no answers.
-fn main() {
-    let mut text = [0u8; 262144];
-    let n = io::read_full(0, &mut text);
+// All of the questions are read before the first is answered.
+fn main(rt: HostRuntime) -> io::Result<()> {
+    let mut text = Vec::new(rt.alloc());
+    rt.reader().read_to_end(&mut text)?;
     let mut l = line_from(0);
-    let mut i: usize = 0;
-    while i < n {
-        l = feed(l, &text, i);
-        i += 1;
+    for i in 0..text.len() {
+        l = feed(&rt, l, &text, i)?;
     }
+    Ok(())
 }

@@ -7,6 +7,8 @@
 // all, nacks, piggybacks, frames tried and received, covered, one number that depends on all positions, logs, pending
 // votes, records and rows, and, for up to 4 positions, each log: how many entries, and each. An entry is its
 // transaction, and 256 more if it was committed.
+#![tactic(auto)]
+
 use engines::clamp;
 use engines::network::{Network, RoundConf};
 use engines::node::{Node, NodeState};
@@ -18,6 +20,8 @@ use pipeline::pipeline::{PipelineConf, PipelinePart};
 use pipeline::two_pc_pipeline::{LogEntry, NodeTwoPcState, Records, TxLog, Txs};
 use pipeline_c::rounds;
 use pipeline_c::rounds::Played;
+use std::io;
+use std::io::Read;
 
 // The numbers of a line, and the number that is being read.
 #[derive(Clone, Copy)]
@@ -57,9 +61,8 @@ fn with_number(l: Line) -> Line {
     r
 }
 
-fn say(n: u64) {
-    io::write_all(1, b" ");
-    io::print_decimal(1, n);
+fn say(rt: &impl Print, n: u64) -> io::Result<()> {
+    print!(rt; " {n}")
 }
 
 // ---- words
@@ -80,11 +83,9 @@ fn put_word(ws: &mut [u64; 4096], i: usize, w: u64) {
 fn words_of(seed: u64) -> [u64; 4096] {
     let mut ws = [0u64; 4096];
     let mut w = seed;
-    let mut i: usize = 0;
-    while i < 4096 {
+    for i in 0..4096 {
         w = next_word(w);
         put_word(&mut ws, i, w);
-        i += 1;
     }
     ws
 }
@@ -135,10 +136,8 @@ fn entry_at(g: TxLog, i: usize) -> u64 {
 fn of_log(d: u64, g: TxLog) -> u64 {
     let count = clamp::at_most_64(g.len);
     let mut e = step(d, g.len as u64);
-    let mut i: usize = 0;
-    while i < count {
+    for i in 0..count {
         e = step(e, entry_at(g, i));
-        i += 1;
     }
     e
 }
@@ -157,10 +156,8 @@ fn of_tx(d: u64, s: NodeTwoPcState, t: usize) -> u64 {
 
 fn of_pending(d: u64, s: NodeTwoPcState) -> u64 {
     let mut e = d;
-    let mut t: usize = 0;
-    while t < 64 {
+    for t in 0..64 {
         e = of_tx(e, s, t);
-        t += 1;
     }
     e
 }
@@ -180,10 +177,8 @@ fn of_position(d: u64, w: Network, p: PipelinePart, i: usize) -> u64 {
 fn of_positions(d: u64, w: Network, p: PipelinePart, n: usize) -> u64 {
     let count = clamp::at_most_64(n);
     let mut e = d;
-    let mut i: usize = 0;
-    while i < count {
+    for i in 0..count {
         e = of_position(e, w, p, i);
-        i += 1;
     }
     e
 }
@@ -208,10 +203,8 @@ fn of_records(d: u64, b: Records, txs: Txs) -> u64 {
     let g = b.log;
     let count = clamp::at_most_64(g.len);
     let mut e = d;
-    let mut i: usize = 0;
-    while i < count {
+    for i in 0..count {
         e = of_record(e, b, txs, i);
-        i += 1;
     }
     e
 }
@@ -232,10 +225,8 @@ fn of_rows(d: u64, rows: &[u64], from: usize, to: usize) -> u64 {
     if from > to {
         return e;
     }
-    let mut i: usize = from * 5;
-    while i < to * 5 {
+    for i in from * 5..to * 5 {
         e = of_number(e, rows, i);
-        i += 1;
     }
     e
 }
@@ -268,42 +259,39 @@ fn sum_up(at: [Node; 64], n: usize) -> Sums {
         flood: 0,
         sleep: 0,
     };
-    let mut i: usize = 0;
-    while i < count {
+    for i in 0..count {
         s = add_node(s, at, i);
-        i += 1;
     }
     s
 }
 
-fn say_log(g: TxLog) {
+fn say_log(rt: &impl Print, g: TxLog) -> io::Result<()> {
     let count = clamp::at_most_64(g.len);
-    say(g.len as u64);
-    let mut i: usize = 0;
-    while i < count {
-        say(entry_at(g, i));
-        i += 1;
+    say(rt, g.len as u64)?;
+    for i in 0..count {
+        say(rt, entry_at(g, i))?;
     }
+    Ok(())
 }
 
-fn say_log_of(p: PipelinePart, i: usize) {
+fn say_log_of(rt: &impl Print, p: PipelinePart, i: usize) -> io::Result<()> {
     if i < 64 {
         let states = p.states;
         let s = states[i];
         let g = s.log;
-        say_log(g);
+        say_log(rt, g)?;
     }
+    Ok(())
 }
 
-fn say_logs(p: PipelinePart, n: usize) {
+fn say_logs(rt: &impl Print, p: PipelinePart, n: usize) -> io::Result<()> {
     if n > 4 {
-        return;
+        return Ok(());
     }
-    let mut i: usize = 0;
-    while i < n {
-        say_log_of(p, i);
-        i += 1;
+    for i in 0..n {
+        say_log_of(rt, p, i)?;
     }
+    Ok(())
 }
 
 // ---- a question
@@ -374,37 +362,36 @@ fn play(
     rounds::play_rounds(&words[..count], &mut rows[..buffer], conf, start, most)
 }
 
-fn say_counts(t: Played, n: usize) {
+fn say_counts(rt: &impl Print, t: Played, n: usize) -> io::Result<()> {
     let w = t.network;
     let p = t.part;
     let m = w.metrics;
-    io::print_decimal(1, t.refusal);
-    say(m.flood_rounds);
-    say(w.slot);
-    say(w.bytes_sent);
-    say(t.cursor as u64);
-    say(p.stop as u64);
+    let refusal = t.refusal;
+    print!(rt; "{refusal}")?;
+    say(rt, m.flood_rounds)?;
+    say(rt, w.slot)?;
+    say(rt, w.bytes_sent)?;
+    say(rt, t.cursor as u64)?;
+    say(rt, p.stop as u64)?;
     let nodes = w.nodes;
     let s = sum_up(nodes, n);
-    say(s.listen);
-    say(s.flood);
-    say(s.sleep);
-    say(m.nacks_sent);
-    say(m.piggybacks_sent);
-    say(m.rx_attempts);
-    say(m.rx_success);
-    say(m.flood_nodes_covered);
+    say(rt, s.listen)?;
+    say(rt, s.flood)?;
+    say(rt, s.sleep)?;
+    say(rt, m.nacks_sent)?;
+    say(rt, m.piggybacks_sent)?;
+    say(rt, m.rx_attempts)?;
+    say(rt, m.rx_success)?;
+    say(rt, m.flood_nodes_covered)
 }
 
-fn answer(l: Line) {
+fn answer(rt: &impl Print, l: Line) -> io::Result<()> {
     let at = l.at;
     let b = NetworkGraph::from_topology(at[0], at[1] as usize, at[2] as usize);
     let g = b.graph;
     let refusal = b.refusal;
     if refusal != 0 {
-        io::print_decimal(1, refusal);
-        io::write_all(1, b"\n");
-        return;
+        return println!(rt; "{refusal}");
     }
     let n = g.n;
     let d = g.diameter();
@@ -422,26 +409,26 @@ fn answer(l: Line) {
         start,
         at[20],
     );
-    say_counts(t, n);
+    say_counts(rt, t, n)?;
     let w = t.network;
     let p = t.part;
     let txs = p.txs;
     let records = p.records;
     let all = of_records(of_positions(0, w, p, n), records, txs);
-    say(of_rows(all, &rows, used, t.used));
-    say_logs(p, n);
-    io::write_all(1, b"\n");
+    say(rt, of_rows(all, &rows, used, t.used))?;
+    say_logs(rt, p, n)?;
+    println!(rt)
 }
 
-fn feed(l: Line, b: u8) -> Line {
+fn feed(rt: &impl Print, l: Line, b: u8) -> io::Result<Line> {
     match b {
         10 => {
-            answer(with_number(l));
-            empty_line()
+            answer(rt, with_number(l))?;
+            Ok(empty_line())
         }
-        32 => with_number(l),
-        48..=57 => with_digit(l, (b - 48) as u64),
-        _ => l,
+        32 => Ok(with_number(l)),
+        48..=57 => Ok(with_digit(l, (b - 48) as u64)),
+        _ => Ok(l),
     }
 }
 
@@ -452,13 +439,12 @@ fn byte_at(text: &[u8], i: usize) -> u8 {
     0
 }
 
-fn main() {
-    let mut text = io::large_buffer();
-    let n = io::read_full(0, &mut text);
+fn main(rt: HostRuntime) -> io::Result<()> {
+    let mut text = Vec::new(rt.alloc());
+    rt.reader().read_to_end(&mut text)?;
     let mut l = empty_line();
-    let mut i: usize = 0;
-    while i < n {
-        l = feed(l, byte_at(&text, i));
-        i += 1;
+    for i in 0..text.len() {
+        l = feed(&rt, l, byte_at(&text, i))?;
     }
+    Ok(())
 }

@@ -4,10 +4,8 @@ use mathlib.Core.List.{List, [], ◌∷◌, ◌++◌}
 use mathlib.Core.Path.{◌≡◌, refl, sym, ap, ap₂, ◌∙◌, subst}
 use Prim.Native.Nat.{ℕ, ◌+◌, ◌-◌, min, ◌≤◌, ◌<◌}
 use native.Mathlib.Omega.{arith}
-use lib.IntN.{ℤ, pos}
 use lib.ListN.{length, take, drop, length-drop, drop_of_length-le}
 use lib.Seq.{length-take-le, take_all, take_at, drop-drop}
-use Rattle.io.specs.Counts.{clamp_len}
 use Rattle.frame.specs.Bounds.{frame_words, ended_bytes}
 use Rattle.lines.specs.Input.{ended_of}
 use Rattle.lines.specs.Feeding.{Feeds, ends_line, is_full, feed_by}
@@ -85,10 +83,9 @@ came text from at {words} {out} {r} h l g k c =
 -- ---- what a read brought
 
 -- The part of the buffer that was lent has the present line and the k bytes that were read.
-pub brought : (buf : List ℕ) (n k : ℕ) {got : ℤ} {count ws kept : ℕ} {over : Bool} {out out' part : List ℕ} → got ≡ pos k → n + k ≤ length buf → count ≡ clamp_len got (length (take (length buf - n) (drop n buf))) → TakesIn (take (n + count - 0) buf) out n ws kept over part out' → length part ≡ length (take (n + count - 0) buf) → TakesIn (take (n + k) buf) out n ws kept over (take (n + k) (part ++ drop (n + count - 0) buf)) out'
-brought buf n k {got} {count} {ws} {kept} {over} {out} {out'} {part} e h q i m =
-    let rest : length (take (length buf - n) (drop n buf)) ≡ length buf - n = length-take-le (length buf - n) (drop n buf) (omega (arith, length-drop n buf)) in
-    let a : count ≡ k = q ∙ ap (λ (z : ℤ). clamp_len z (length (take (length buf - n) (drop n buf)))) e ∙ least k (length (take (length buf - n) (drop n buf))) (omega arith) in
+pub brought : (buf : List ℕ) (n k : ℕ) {count ws kept : ℕ} {over : Bool} {out out' part : List ℕ} → n + k ≤ length buf → count ≡ min k (length buf - n) → TakesIn (take (n + count - 0) buf) out n ws kept over part out' → length part ≡ length (take (n + count - 0) buf) → TakesIn (take (n + k) buf) out n ws kept over (take (n + k) (part ++ drop (n + count - 0) buf)) out'
+brought buf n k {count} {ws} {kept} {over} {out} {out'} {part} h q i m =
+    let a : count ≡ k = q ∙ least k (length buf - n) (omega arith) in
     let f : take (n + count - 0) buf ≡ take (n + k) buf = ap (λ (j : ℕ). take j buf) (same a) in
     let g : take (n + k) (part ++ drop (n + count - 0) buf) ≡ part = take_at part (drop (n + count - 0) buf) (n + k) (m ∙ ap length f ∙ length-take-le (n + k) buf h) in
     subst (λ (x : List ℕ). TakesIn (take (n + k) buf) out n ws kept over x out') (sym g) (subst (λ (t : List ℕ). TakesIn t out n ws kept over part out') f i)

@@ -9,11 +9,15 @@
 // The answer is the refusal of the opening. Then, behind a comma each, what the calls tell: all numbers up to the last
 // that is not 0, and behind a stroke each float, times 2^63. At the end, behind semicolons, a digest of the row buffer,
 // and the buffer for texts up to its last byte that is not 0.
+#![tactic(auto)]
+
 ghost use Rattle.std.specs.Prelude.{◌≤◌};
 
 use engines_c::numbers;
 use graph::network::NetworkGraph;
 use room_c::console;
+use std::io;
+use std::io::Read;
 
 // The numbers of a line, and the number that is being read.
 #[derive(Clone, Copy)]
@@ -86,19 +90,15 @@ fn abort_of(n: u64) -> f64 {
 
 fn count_up(xs: &mut [u64], first: u64, step: u64) {
     let mut w = first;
-    let mut i: usize = 0;
-    while i < xs.len() {
+    for i in 0..xs.len() {
         numbers::put(xs, i, w);
         w = std::num::wrapping_add_u64(w, step);
-        i += 1;
     }
 }
 
 fn copy(xs: &mut [u64], from: &[u64]) {
-    let mut i: usize = 0;
-    while i < xs.len() {
+    for i in 0..xs.len() {
         numbers::put(xs, i, numbers::number(from, i));
-        i += 1;
     }
 }
 
@@ -159,9 +159,8 @@ fn run(
 
 // ---- what is printed
 
-fn say(n: u64) {
-    io::write_all(1, b" ");
-    io::print_decimal(1, n);
+fn say(rt: &impl Print, n: u64) -> io::Result<()> {
+    print!(rt; " {n}")
 }
 
 fn later(last: usize, i: usize, x: u64) -> usize {
@@ -174,73 +173,70 @@ fn later(last: usize, i: usize, x: u64) -> usize {
 // The place of the last of call i's numbers that is not 0, or of the first.
 fn last_told(told: &[u64], i: usize) -> usize {
     let mut last: usize = 0;
-    let mut k: usize = 0;
-    while k < 40 {
+    for k in 0..40 {
         last = later(last, k, numbers::number_behind(told, i, k));
-        k += 1;
     }
     last
 }
 
-fn say_told(told: &[u64], i: usize, k: usize, last: usize) {
+fn say_told(rt: &impl Print, told: &[u64], i: usize, k: usize, last: usize) -> io::Result<()> {
     if k <= last {
-        say(numbers::number_behind(told, i, k));
+        say(rt, numbers::number_behind(told, i, k))?;
     }
+    Ok(())
 }
 
-fn say_numbers(told: &[u64], i: usize) {
+fn say_numbers(rt: &impl Print, told: &[u64], i: usize) -> io::Result<()> {
     let last = last_told(told, i);
-    io::write_all(1, b",");
-    io::print_decimal(1, numbers::number(told, i));
-    let mut k: usize = 1;
-    while k < 40 {
-        say_told(told, i, k, last);
-        k += 1;
+    let first = numbers::number(told, i);
+    print!(rt; ",{first}")?;
+    for k in 1..40 {
+        say_told(rt, told, i, k, last)?;
     }
+    Ok(())
 }
 
 // Exact but for what is below 2^-63.
-fn say_float(floats: &[f64], i: usize) {
-    io::write_all(1, b"/");
+fn say_float(rt: &impl Print, floats: &[f64], i: usize) -> io::Result<()> {
+    print!(rt; "/")?;
     if floats.len() <= i {
-        return;
+        return Ok(());
     }
     let y = floats[i] * 9223372036854775808.0;
     if y > -1.0 {
         if y < 18446744073709551616.0 {
-            io::print_decimal(1, std::num::truncating_f64_to_u64(y));
-            return;
+            let n = std::num::truncating_f64_to_u64(y);
+            return print!(rt; "{n}");
         }
     }
-    io::write_all(1, b"-");
+    print!(rt; "-")
 }
 
-fn say_two(floats: &[f64], i: usize) {
+fn say_two(rt: &impl Print, floats: &[f64], i: usize) -> io::Result<()> {
     if floats.len() <= i {
-        return;
+        return Ok(());
     }
-    say_float(floats, i);
-    say_float(floats, i + 1);
+    say_float(rt, floats, i)?;
+    say_float(rt, floats, i + 1)
 }
 
 // Settings have two, a ratio one.
-fn say_floats(floats: &[f64], i: usize, which: u64) {
+fn say_floats(rt: &impl Print, floats: &[f64], i: usize, which: u64) -> io::Result<()> {
     match which {
-        6 => say_two(floats, i),
-        11 => say_float(floats, i),
-        12 => say_float(floats, i),
-        _ => {}
+        6 => say_two(rt, floats, i),
+        11 => say_float(rt, floats, i),
+        12 => say_float(rt, floats, i),
+        _ => Ok(()),
     }
 }
 
-fn say_calls(calls: &[u64], told: &[u64], floats: &[f64]) {
+fn say_calls(rt: &impl Print, calls: &[u64], told: &[u64], floats: &[f64]) -> io::Result<()> {
     let count = calls.len() / 4;
-    let mut i: usize = 0;
-    while i < count {
-        say_numbers(told, i * 40);
-        say_floats(floats, i * 2, numbers::number(calls, i * 4));
-        i += 1;
+    for i in 0..count {
+        say_numbers(rt, told, i * 40)?;
+        say_floats(rt, floats, i * 2, numbers::number(calls, i * 4))?;
     }
+    Ok(())
 }
 
 fn mix(h: u64, x: u64) -> u64 {
@@ -249,10 +245,8 @@ fn mix(h: u64, x: u64) -> u64 {
 
 fn digest(xs: &[u64]) -> u64 {
     let mut h: u64 = 0;
-    let mut i: usize = 0;
-    while i < xs.len() {
-        h = mix(h, xs[i]);
-        i += 1;
+    for x in xs {
+        h = mix(h, *x);
     }
     h
 }
@@ -266,72 +260,75 @@ fn byte_at(text: &[u8], i: usize) -> u8 {
 
 fn last_byte(text: &[u8]) -> usize {
     let mut last: usize = 0;
-    let mut i: usize = 0;
-    while i < text.len() {
+    for i in 0..text.len() {
         last = later(last, i + 1, byte_at(text, i) as u64);
-        i += 1;
     }
     last
 }
 
-fn say_text(text: &[u8]) {
+fn say_text(rt: &impl Print, text: &[u8]) -> io::Result<()> {
     let end = at_most(last_byte(text) as u64, text.len());
-    io::write_all(1, b";");
-    io::write_all(1, &text[..end]);
+    print!(rt; ";")?;
+    rt.write_all(&text[..end])
 }
 
 // ---- a question
 
-fn ask(at: &[u64], rows: &mut [u64], text: &mut [u8]) {
+fn ask(rt: &impl Print, at: &[u64], rows: &mut [u64], text: &mut [u8]) -> io::Result<()> {
     let mut told = [0u64; 2360];
     let mut floats = [0.0f64; 118];
     if at.len() < 20 {
-        return;
+        return Ok(());
     }
     let refusal = run(at, &at[20..], rows, &mut told, &mut floats, text);
-    io::print_decimal(1, refusal);
+    print!(rt; "{refusal}")?;
     if refusal == 0 {
-        say_calls(&at[20..], &told, &floats);
+        say_calls(rt, &at[20..], &told, &floats)?;
     }
-    io::write_all(1, b";");
-    io::print_decimal(1, digest(rows));
-    say_text(text);
-    io::write_all(1, b"\n");
+    let all_rows = digest(rows);
+    print!(rt; ";{all_rows}")?;
+    say_text(rt, text)?;
+    println!(rt)
 }
 
-fn play(at: &[u64], count: usize, rows: &mut [u64], text: &mut [u8]) {
+fn play(
+    rt: &impl Print,
+    at: &[u64],
+    count: usize,
+    rows: &mut [u64],
+    text: &mut [u8],
+) -> io::Result<()> {
     let end = at_most(count as u64, at.len());
     let buffer = at_most(numbers::number(at, 18), rows.len());
     let room = at_most(numbers::number(at, 19), text.len());
-    ask(&at[..end], &mut rows[..buffer], &mut text[..room]);
+    ask(rt, &at[..end], &mut rows[..buffer], &mut text[..room])
 }
 
-fn answer(l: Line) {
+fn answer(rt: &impl Print, l: Line) -> io::Result<()> {
     let at = l.at;
     let mut rows = [0u64; 400];
     let mut text = [0u8; 700];
-    play(&at, l.count, &mut rows, &mut text);
+    play(rt, &at, l.count, &mut rows, &mut text)
 }
 
-fn feed(l: Line, b: u8) -> Line {
+fn feed(rt: &impl Print, l: Line, b: u8) -> io::Result<Line> {
     match b {
         10 => {
-            answer(with_number(l));
-            empty_line()
+            answer(rt, with_number(l))?;
+            Ok(empty_line())
         }
-        32 => with_number(l),
-        48..=57 => with_digit(l, (b - 48) as u64),
-        _ => l,
+        32 => Ok(with_number(l)),
+        48..=57 => Ok(with_digit(l, (b - 48) as u64)),
+        _ => Ok(l),
     }
 }
 
-fn main() {
-    let mut text = io::large_buffer();
-    let n = io::read_full(0, &mut text);
+fn main(rt: HostRuntime) -> io::Result<()> {
+    let mut text = Vec::new(rt.alloc());
+    rt.reader().read_to_end(&mut text)?;
     let mut l = empty_line();
-    let mut i: usize = 0;
-    while i < n {
-        l = feed(l, byte_at(&text, i));
-        i += 1;
+    for i in 0..text.len() {
+        l = feed(&rt, l, byte_at(&text, i))?;
     }
+    Ok(())
 }

@@ -6,11 +6,8 @@ use Rattle.capture.specs.Plan.{tossed1}
 use Rattle.capture.specs.Boards.{last_at, waiting_since, coins_by}
 use Rattle.capture.specs.declared.plan.Coins.{Coins}
 use Rattle.engines.proofs.Marking.{without, over_less, over_turn, over_none}
+use Rattle.capture.proofs.plan.toss_all.Invariants.{tossing}
 use Rattle.capture.proofs.plan.toss_all.Goals as goal
-
--- the turn at position i
-abbrev tossing : List ℕ → List ℕ → ℕ → ℕ → ℕ → Coins → Coins
-tossing words table slot timeout i c = tossed1 words slot timeout (waiting_since (cell table last_at i)) i c
 
 pub loop-left-init : goal.loop-left-init
 loop-left-init c = (omega arith, refl)

@@ -9,7 +9,7 @@ use Rattle.engines.proofs.Marking.{without, over_less, over_turn, over_none}
 use Rattle.capture.proofs.plan.toss_all.Given as goal
 
 -- the turn at position i
-abbrev tossing : List ℕ → List ℕ → ℕ → ℕ → ℕ → Coins → Coins
+abbrev pub tossing : List ℕ → List ℕ → ℕ → ℕ → ℕ → Coins → Coins
 tossing words table slot timeout i c = tossed1 words slot timeout (waiting_since (cell table last_at i)) i c
 
 abbrev pub invariant-loop-left : goal.invariant-loop-left

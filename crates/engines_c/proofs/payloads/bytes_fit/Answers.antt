@@ -10,11 +10,8 @@ use Rattle.marks.specs.Marks.{all_of}
 use Rattle.marks.specs.Sets.{all_none, all_more, all_left, all_done}
 use Rattle.engines_c.specs.Numbers.{cell}
 use Rattle.engines_c.specs.Payloads.{bytes_fit}
+use Rattle.engines_c.proofs.payloads.bytes_fit.Invariants.{fit}
 use Rattle.engines_c.proofs.payloads.bytes_fit.Goals as goal
-
--- whether number j is a byte
-abbrev fit : List ℕ → ℕ → ℕ → ℕ → Bool
-fit xs at k j = leb (cell xs at (k + j)) 255
 
 pub loop-i-init : goal.loop-i-init
 loop-i-init c = (omega arith, all_none _)

@@ -13,7 +13,7 @@ use Rattle.engines_c.specs.Payloads.{bytes_fit}
 use Rattle.engines_c.proofs.payloads.bytes_fit.Given as goal
 
 -- whether number j is a byte
-abbrev fit : List ℕ → ℕ → ℕ → ℕ → Bool
+abbrev pub fit : List ℕ → ℕ → ℕ → ℕ → Bool
 fit xs at k j = leb (cell xs at (k + j)) 255
 
 abbrev pub invariant-loop-i : goal.invariant-loop-i

@@ -8,11 +8,8 @@ use borrow.Author.Tests.{not-true, not-false}
 use Rattle.marks.specs.Marks.{all_of}
 use Rattle.marks.specs.Sets.{all_none, all_more, all_left, all_done}
 use Rattle.engines_c.specs.Payloads.{payload_fits, held_fits}
+use Rattle.engines_c.proofs.payloads.held_fits.Invariants.{fit}
 use Rattle.engines_c.proofs.payloads.held_fits.Goals as goal
-
--- whether the numbers of position j are those of a payload
-abbrev fit : List ℕ → ℕ → ℕ → Bool
-fit xs at j = payload_fits xs at (j * 38)
 
 pub loop-i-init : goal.loop-i-init
 loop-i-init c = (omega arith, all_none _)

@@ -11,7 +11,7 @@ use Rattle.engines_c.specs.Payloads.{payload_fits, held_fits}
 use Rattle.engines_c.proofs.payloads.held_fits.Given as goal
 
 -- whether the numbers of position j are those of a payload
-abbrev fit : List ℕ → ℕ → ℕ → Bool
+abbrev pub fit : List ℕ → ℕ → ℕ → Bool
 fit xs at j = payload_fits xs at (j * 38)
 
 abbrev pub invariant-loop-i : goal.invariant-loop-i

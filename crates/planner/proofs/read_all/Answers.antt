@@ -1,0 +1,10 @@
+use Prim.Native.Nat.{◌≤◌}
+use mathlib.Core.Path.{◌≡◌}
+use lib.ListN.{length}
+use native.Mathlib.Omega.{arith}
+use Rattle.frame.specs.Bounds.{kept_bytes}
+use borrow.Author.Rules.{rules}
+use Rattle.planner.proofs.read_all.Goals as goal
+
+pub loop-turns-preserved : goal.loop-turns-preserved
+loop-turns-preserved c = (omega (arith, c.one_turn-t.auto, c.loop-turns.invariant.0), omega (arith, c.one_turn-t.auto, c.loop-turns.invariant.1), omega (arith, c.one_turn-t.auto, c.loop-turns.invariant.2), c.one_turn-t.ensures)
