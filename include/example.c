@@ -1,7 +1,7 @@
 /* Writes a packet of each family, reads it back, shows refusals, and passes a proposal on by a merge. include/check
    builds and runs it; by hand, from the top of the repository:
 
-       rt staticlib packets_c
+       tools/build packets_c
        gcc -std=c11 -Wall -Wextra -Werror -Iinclude include/example.c target/staticlib/libpackets_c.a -o target/example
        target/example
 */

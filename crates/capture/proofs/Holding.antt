@@ -1,5 +1,5 @@
 -- What positions hold, told by phases and table: read, sent, tested for the goal, and written. Assumes nothing.
-use Rattle.std.proofs.Common.{◌≡◌, ℕ, zero, suc, ◌+◌, ◌*◌, ◌%◌, ◌^◌, ◌<◌, ◌≤◌, Bool, true, false, not, ◌&&◌, ◌||◌, eqb, ltb, leb, List, [], ◌∷◌, length, get_or, set, sym, refl, ap, ◌∙◌, true≢false, mod-eq_of_lt, arith, get_or-set_other, get_or-set_same, eq-eqb, ne_eqb, eqb-true, leb-true}
+use Rattle.std.proofs.Common.{◌≡◌, ℕ, zero, suc, ◌+◌, ◌*◌, ◌%◌, ◌<◌, ◌≤◌, Bool, true, false, not, ◌&&◌, ◌||◌, eqb, ltb, leb, List, [], ◌∷◌, length, get_or, set, sym, refl, ap, ◌∙◌, true≢false, mod-eq_of_lt, arith, get_or-set_other, get_or-set_same, eq-eqb, ne_eqb, eqb-true, leb-true}
 use borrow.Author.Tests.{eqb-false}
 use Rattle.limits.specs.Limits.{positions}
 use Rattle.loops.specs.Pick.{either}

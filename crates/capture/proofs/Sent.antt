@@ -4,7 +4,7 @@ use native.Mathlib.Nat.{add-mod-mod}
 use Rattle.limits.specs.Limits.{header_bytes}
 use Rattle.loops.specs.Pick.{either}
 use Rattle.loops.specs.Upto.{upto}
-use Rattle.marks.specs.Marks.{has, marks}
+use Rattle.marks.specs.Marks.{has}
 use Rattle.marks.specs.Sets.{has_marks}
 use Rattle.merges.specs.Merging.{network_goal_of, no_payload}
 use Rattle.merges.specs.declared.merging.Payload.{Payload}
@@ -12,13 +12,11 @@ use Rattle.engines.specs.Clamp.{at_most64}
 use Rattle.engines.specs.Marked.{over_marks}
 use Rattle.engines.specs.Network.{on_air, ticking}
 use Rattle.engines.specs.Nodes.{floods, sets_of, tick_at, ticked_all}
-use Rattle.engines.specs.declared.network.RoundConf.{RoundConf}
 use Rattle.engines.specs.declared.node.Node.{Node}
 use Rattle.engines.proofs.FloodTicks.{floods_kept}
 use Rattle.capture.specs.Ce.{payload_len, sent_at, sent_of}
 use Rattle.capture.specs.Capture.{begun, goal_met, acted, finished, slot_of}
 use Rattle.capture.specs.Sent.{sum_of, added_at, SlotSends}
-use Rattle.capture.specs.declared.capture.CeState.{CeState}
 
 -- a sum may wrap at each step or once
 wrapped : (s l : ℕ) → (s % 2 ^ 64 + (l + header_bytes) % 2 ^ 64) % 2 ^ 64 ≡ (s + (l + header_bytes)) % 2 ^ 64

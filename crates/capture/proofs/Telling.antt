@@ -4,7 +4,7 @@ use lib.Seq.{set-get_or}
 use borrow.Author.Tests.{eqb-false}
 use Rattle.loops.specs.Pick.{either}
 use Rattle.loops.specs.Upto.{upto, upto_same}
-use Rattle.marks.specs.Marks.{has, marks}
+use Rattle.marks.specs.Marks.{has}
 use Rattle.marks.specs.Sets.{and_true, has_marks, grown_none}
 use Rattle.merges.specs.Votes.{no_of}
 use Rattle.merges.specs.Merging.{no_payload, merge_of, merged_by, new_info, redundant, goal_of, can_sleep_of}

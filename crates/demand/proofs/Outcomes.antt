@@ -2,7 +2,6 @@
 -- nothing.
 use Prim.Native.Nat.{ℕ, ◌≤◌, ◌<◌}
 use mathlib.Core.Bool.{Bool, true, false}
-use mathlib.Core.List.{List, Memᴰ}
 use mathlib.Core.Path.{◌≡◌, refl, sym, ap, subst, ◌∙◌}
 use lib.Dec.{eqb, ltb, leb}
 use borrow.Author.Tests.{ltb-true, leb-true, lt-ltb, le-leb, eqb-true, eqb-false}
@@ -32,7 +31,6 @@ use Rattle.room.specs.declared.room.Opening.{Opening}
 use Rattle.room.specs.Rooms.{size_of, held_at, open_refusal, new_room, open_of}
 use Rattle.readings.specs.declared.readings.OutcomeReading.{OutcomeReading}
 use Rattle.readings.specs.Readings.{capture_only, outcome_read}
-use Rattle.demand.specs.Calls.{Call, after, moments}
 use Rattle.demand.specs.Demand.{HoldsPhase}
 use Rattle.demand.specs.Texts.{HoldsValue}
 use Rattle.demand.specs.Outcomes.{HasOutcome, OutcomeHolds, OutcomesHold, OneOutcome}

@@ -1,6 +1,6 @@
 -- RULES 7.2 and 7.5: a slot's tick raises the flood ticks of all positions by the number of those that flood, in 64
 -- binary digits; and what is sent for each of them goes with that number. Assumes nothing.
-use Rattle.std.proofs.Common.{◌≡◌, ℕ, zero, suc, ◌+◌, ◌-◌, ◌*◌, ◌/◌, ◌%◌, ◌^◌, ◌<◌, ◌≤◌, Bool, true, false, ◌&&◌, eqb, ltb, List, [], ◌∷◌, length, get_or, set, sym, refl, ap, ◌∙◌, subst, add-zero, add_assoc, add-suc, mul_assoc, add-mul, arith, get_or-set_other, get_or-set_same, lt-ltb, eqb-true}
+use Rattle.std.proofs.Common.{◌≡◌, ℕ, zero, suc, ◌+◌, ◌-◌, ◌*◌, ◌/◌, ◌%◌, ◌^◌, ◌<◌, ◌≤◌, Bool, true, false, ◌&&◌, eqb, List, [], ◌∷◌, length, get_or, set, sym, refl, ap, ◌∙◌, subst, add-zero, add_assoc, add-suc, mul_assoc, add-mul, arith, get_or-set_other, get_or-set_same, lt-ltb, eqb-true}
 use mir.Val.{bool_byte}
 use lib.Seq.{set_out}
 use native.Mathlib.Decide.{dec_lt}

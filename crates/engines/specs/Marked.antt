@@ -1,6 +1,6 @@
 -- RULES none. Loops over the marks of a set in rising order, one mark more, and a change of one place of a list.
 -- Assumes nothing.
-use Rattle.std.specs.Prelude.{ℕ, ◌||◌, List, set, ◌==◌, slice_index_or, slice_set}
+use Rattle.std.specs.Prelude.{ℕ, ◌||◌, List, ◌==◌, slice_index_or, slice_set}
 use Rattle.loops.specs.Pick.{either}
 use Rattle.loops.specs.Upto.{upto}
 use Rattle.marks.specs.Marks.{has, marks}

@@ -1,5 +1,5 @@
 -- RULES 3.1 and 3.2: what a draw takes from the lent list, and what one word gives. Assumes nothing.
-use Rattle.std.specs.Prelude.{ℕ, ◌+◌, ◌-◌, ◌/◌, ◌%◌, ◌^◌, Bool, true, List, length, set, pos, from_bits, nat_lt, slice_index, slice_set, Float}
+use Rattle.std.specs.Prelude.{ℕ, ◌+◌, ◌-◌, ◌/◌, ◌%◌, ◌^◌, Bool, true, List, length, pos, from_bits, nat_lt, slice_index, slice_set, Float}
 use Rattle.std.specs.Float.{binary64}
 use Rattle.std.specs.Float.Ieee.{div, of_int, lt}
 use Rattle.loops.specs.Pick.{either}

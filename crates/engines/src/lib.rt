@@ -1,5 +1,7 @@
 // RULES 3 and RULES 7. What both kinds of round are made of: words and draws, ticks and counts, rows, metrics and
 // settings. With `capture`, `flood` and `pipeline` the third of the layers.
+#![tactic(auto)]
+
 pub mod clamp;
 pub mod columns;
 pub mod metrics;

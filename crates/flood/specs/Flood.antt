@@ -1,6 +1,6 @@
 -- RULES 9, the flood: one packet, sent on by whoever hears it. A link from
 -- i to j says that j hears i: row i of the links has mark j. Assumes nothing.
-use Rattle.std.specs.Prelude.{ℕ, ◌+◌, ◌-◌, ◌*◌, ◌/◌, ◌%◌, ◌^◌, max, Bool, true, false, ◌&&◌, List, length, ◌==◌, from_bits, nat_le, nat_lt, slice_index, slice_index_or, slice_set, Float}
+use Rattle.std.specs.Prelude.{ℕ, ◌+◌, ◌-◌, ◌*◌, ◌/◌, max, Bool, true, false, ◌&&◌, List, length, ◌==◌, from_bits, nat_le, nat_lt, slice_index, slice_index_or, slice_set, Float}
 use Rattle.std.specs.Float.{binary64}
 use Rattle.std.specs.Float.Ieee.{eq}
 use Rattle.loops.specs.Pick.{either}

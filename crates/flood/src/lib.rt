@@ -1,3 +1,5 @@
 // RULES 9. The identical flood, ported from phy/ci.rs.
+#![tactic(auto)]
+
 pub mod flood;
 mod quiet;

@@ -1,4 +1,6 @@
 // RULES 13 and RULES 14.1. A frame line in, its listing line out.
+#![tactic(auto)]
+
 pub mod bounds;
 pub mod line;
 pub mod listing;

@@ -1,4 +1,6 @@
 // RULES 16. The numbers that every layer goes by: what a room never exceeds, and the refusals.
+#![tactic(auto)]
+
 pub mod refusals;
 
 pub const POSITIONS: usize = 64;

@@ -1,6 +1,6 @@
 -- The text of a packet, by RULES 5.1, 5.2, 5.3 and 5.5: serde_json's compact form, and the packets that have one.
 -- Assumes nothing: these are definitions.
-use Rattle.std.specs.Prelude.{◌≡◌, Bool, ◌&&◌, List, [], ◌∷◌, ◌++◌, ℕ, ◌+◌, ◌^◌, ◌≤◌, ◌<◌, leb, length, take, replicate}
+use Rattle.std.specs.Prelude.{◌≡◌, Bool, ◌&&◌, List, [], ◌∷◌, ◌++◌, ℕ, ◌^◌, ◌≤◌, ◌<◌, leb, length, take, replicate}
 use Rattle.limits.specs.Limits.{bitmap_entries, data_bytes}
 use Rattle.marks.specs.Marks.{marks_of}
 use Rattle.texts.specs.Put.{written}

@@ -1,5 +1,7 @@
 // RULES 5. The text of both packet families: written into a lent buffer, measured, and read. The forms are those of
 // two_pc_ce.rs and two_pc_pipeline.rs.
+#![tactic(auto)]
+
 pub mod len;
 mod put;
 mod read;

@@ -13,22 +13,7 @@ use Rattle.merges.specs.Merging.{payload_of}
 use Rattle.merges.specs.Sound.{SoundHeld}
 use Rattle.merges.specs.Late.{Event, Propose, Deliver}
 use Rattle.packets_c.specs.Desk.{desk_of, proposed_of}
-use Rattle.packets_c.specs.Late.{
-  Place,
-  emptied,
-  no_place,
-  Moment,
-  opening,
-  History,
-  place_at,
-  proposed,
-  proposing,
-  merging,
-  happened,
-  history,
-  read_of,
-  LateTexts,
-}
+use Rattle.packets_c.specs.Late.{Place, emptied, no_place, Moment, opening, History, place_at, proposed, merging, happened, history, read_of, LateTexts}
 use Rattle.merges.specs.declared.votes.Voting.{Voting}
 use Rattle.merges.proofs.Safety.{either_cases, merges_sound, proposes_sound, never_both}
 use Rattle.loops.specs.Stores.{set_all}

@@ -1,7 +1,7 @@
 -- A pipeline room holds valid packets only: those within the limits of a text. What is kept from round to round: no
 -- vote word has a mark at or behind the number of positions, no more than 64 transactions were generated, and what is
 -- piggybacked is a number of 64 bits. Assumes nothing.
-use Rattle.std.proofs.Common.{◌≡◌, ℕ, zero, suc, ◌-◌, ◌^◌, ◌<◌, ◌≤◌, Bool, true, false, not, ◌&&◌, ◌||◌, eqb, ltb, leb, List, length, get_or, replicate, sym, refl, ◌∙◌, mod-lt, arith, length-set, pow_pos, ltb-false, ltb-true, ne_eqb, eqb-true}
+use Rattle.std.proofs.Common.{◌≡◌, ℕ, zero, suc, ◌^◌, ◌<◌, ◌≤◌, Bool, true, false, not, ◌&&◌, ◌||◌, eqb, ltb, leb, List, length, get_or, replicate, sym, refl, ◌∙◌, mod-lt, arith, length-set, pow_pos, ltb-false, ltb-true, ne_eqb, eqb-true}
 use lib.Ieee.{Float}
 use Rattle.loops.specs.Stores.{set_all}
 use Rattle.loops.specs.Pick.{either}

@@ -1,5 +1,5 @@
 -- A room as numbers: stores that keep a list's length.
-use Rattle.std.proofs.Common.{◌≡◌, ℕ, ◌+◌, ◌-◌, ◌*◌, List, length, get_or, length-set}
+use Rattle.std.proofs.Common.{◌≡◌, ℕ, ◌+◌, ◌*◌, List, length, get_or, length-set}
 use lib.Seq.{length-sets}
 use Rattle.pipeline.specs.Pipeline.{no_state}
 use Rattle.pipeline.specs.Round.{no_packet}

@@ -137,7 +137,14 @@ fn at_most(got: usize, room: usize) -> usize
 }
 
 // A read that did not fail answered how many bytes it brought behind the n of the present line.
-fn after_read(streams: &Streams, buf: &mut [u8], n: usize, got: usize, words: &mut [u64], out: &mut [u8]) -> Turn
+fn after_read(
+    streams: &Streams,
+    buf: &mut [u8],
+    n: usize,
+    got: usize,
+    words: &mut [u64],
+    out: &mut [u8],
+) -> Turn
     requires { (n ≤ length buf.old) × (frame_words ≤ length words.old) × (ended_bytes ≤ length out.old) }
     ensures { (result.n ≤ kept_bytes) × (n + got ≤ length buf.old → TakesIn (take (n + got) buf.old) out.old n (length words.old) result.n result.over (take (n + got) buf.new) out.new) }
 {

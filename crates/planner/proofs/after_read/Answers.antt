@@ -1,6 +1,3 @@
-use mathlib.Core.Path.{◌∙◌}
-use mir.Facts.{to_z-of_z}
-use mir.Syntax.{w64}
 use native.Mathlib.Omega.{arith}
 use Rattle.planner.proofs.Calls.{brought}
 use borrow.Author.Rules.{rules}

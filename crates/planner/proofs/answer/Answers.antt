@@ -1,10 +1,7 @@
 use mathlib.Core.Bool.{true≢false}
-use mathlib.Core.Path.{◌≡◌, refl, ◌∙◌}
-use Prim.Native.Nat.{◌≤◌, ◌-◌}
-use lib.ListN.{length, take, drop}
+use mathlib.Core.Path.{refl, ◌∙◌}
 use native.Mathlib.Omega.{arith}
-use Rattle.planner.specs.Turns.{left_of}
-use Rattle.planner.proofs.Calls.{left_at, left_start, left_all, came}
+use Rattle.planner.proofs.Calls.{left_start, left_all, came}
 use borrow.Author.Rules.{rules}
 use Rattle.planner.proofs.answer.Goals as goal
 

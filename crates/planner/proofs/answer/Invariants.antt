@@ -1,11 +1,8 @@
-use mathlib.Core.Bool.{true≢false}
-use mathlib.Core.Path.{◌≡◌, refl, ◌∙◌}
+use mathlib.Core.Path.{◌≡◌}
 use Prim.Native.Nat.{◌≤◌, ◌-◌}
 use lib.ListN.{length, take, drop}
-use native.Mathlib.Omega.{arith}
 use Rattle.planner.specs.Turns.{left_of}
-use Rattle.planner.proofs.Calls.{left_at, left_start, left_all, came}
-use borrow.Author.Rules.{rules}
+use Rattle.planner.proofs.Calls.{left_at}
 use Rattle.planner.proofs.answer.Given as goal
 
 abbrev pub invariant-loop-at : goal.invariant-loop-at

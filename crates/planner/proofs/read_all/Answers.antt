@@ -1,9 +1,4 @@
-use Prim.Native.Nat.{◌≤◌}
-use mathlib.Core.Path.{◌≡◌}
-use lib.ListN.{length}
 use native.Mathlib.Omega.{arith}
-use Rattle.frame.specs.Bounds.{kept_bytes}
-use borrow.Author.Rules.{rules}
 use Rattle.planner.proofs.read_all.Goals as goal
 
 pub loop-turns-preserved : goal.loop-turns-preserved

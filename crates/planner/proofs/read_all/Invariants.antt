@@ -1,9 +1,7 @@
 use Prim.Native.Nat.{◌≤◌}
 use mathlib.Core.Path.{◌≡◌}
 use lib.ListN.{length}
-use native.Mathlib.Omega.{arith}
 use Rattle.frame.specs.Bounds.{kept_bytes}
-use borrow.Author.Rules.{rules}
 use Rattle.planner.proofs.read_all.Given as goal
 
 abbrev pub invariant-loop-turns : goal.invariant-loop-turns

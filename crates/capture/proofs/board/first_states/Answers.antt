@@ -1,4 +1,4 @@
-use Rattle.std.proofs.Common.{refl, rules}
+use Rattle.std.proofs.Common.{refl}
 use Rattle.capture.proofs.Unpacking.{first_states}
 use Rattle.capture.proofs.board.first_states.Goals as goal
 

@@ -1,4 +1,4 @@
-use Rattle.std.proofs.Common.{sym, ◌∙◌, rules}
+use Rattle.std.proofs.Common.{sym, ◌∙◌}
 use Rattle.capture.specs.Boards.{holds_by}
 use Rattle.capture.proofs.board.holds.Goals as goal
 

@@ -1,6 +1,5 @@
 use Rattle.capture.specs.Boards.{node_by}
 use Rattle.engines.specs.Columns.{cell}
-use Rattle.std.proofs.Common.{rules}
 use Rattle.capture.proofs.board.node_by.Goals as goal
 
 pub returns : goal.returns

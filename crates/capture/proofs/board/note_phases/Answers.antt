@@ -1,5 +1,4 @@
 use Rattle.capture.proofs.Unpacking.{noted_empty, noted_unreadable, noted_packet}
-use Rattle.std.proofs.Common.{rules}
 use Rattle.capture.proofs.board.note_phases.Goals as goal
 
 pub returns-in-Empty : goal.returns-in-Empty

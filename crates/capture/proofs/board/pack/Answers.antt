@@ -1,5 +1,4 @@
 use Rattle.capture.specs.Boards.{seen_by}
-use Rattle.std.proofs.Common.{rules}
 use Rattle.capture.proofs.board.pack.Goals as goal
 
 pub returns : goal.returns

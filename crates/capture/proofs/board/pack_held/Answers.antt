@@ -1,10 +1,7 @@
-use Rattle.std.proofs.Common.{◌≡◌, ◌-◌, ◌≤◌, refl, arith, rules}
-use Rattle.loops.specs.Upto.{upto, upto_none, upto_turn, upto_all}
-use Rattle.engines.specs.Clamp.{at_most64}
-use Rattle.engines.specs.Marked.{place}
-use Rattle.merges.specs.Merging.{no_payload}
+use Rattle.std.proofs.Common.{refl, arith}
+use Rattle.loops.specs.Upto.{upto_none, upto_turn, upto_all}
 use Rattle.engines.specs.Columns.{cell}
-use Rattle.capture.specs.Boards.{payload_by, payloads_by, data_in}
+use Rattle.capture.specs.Boards.{payloads_by, data_in}
 use Rattle.capture.proofs.board.pack_held.Goals as goal
 
 pub loop-i-init : goal.loop-i-init
@@ -12,12 +9,11 @@ loop-i-init c = (c.at_most_64-count.ensures, omega arith, upto_none _ _)
 
 pub loop-i-preserved : goal.loop-i-preserved
 unfolding data_in cell
-loop-i-preserved c =
-    (
-      c.loop-i.invariant.0,
-      omega arith,
-      upto_turn _ _ c.loop-i.invariant.2 (rw (c.payload_by.ensures c.args.held refl)),
-    )
+loop-i-preserved c = (
+  c.loop-i.invariant.0,
+  omega arith,
+  upto_turn _ _ c.loop-i.invariant.2 (rw (c.payload_by.ensures c.args.held refl)),
+)
 
 pub returns : goal.returns
 unfolding payloads_by

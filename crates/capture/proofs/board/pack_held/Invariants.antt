@@ -1,10 +1,9 @@
-use Rattle.std.proofs.Common.{◌≡◌, ◌-◌, ◌≤◌, refl, arith, rules}
-use Rattle.loops.specs.Upto.{upto, upto_none, upto_turn, upto_all}
+use Rattle.std.proofs.Common.{◌≡◌, ◌-◌, ◌≤◌}
+use Rattle.loops.specs.Upto.{upto}
 use Rattle.engines.specs.Clamp.{at_most64}
 use Rattle.engines.specs.Marked.{place}
 use Rattle.merges.specs.Merging.{no_payload}
-use Rattle.engines.specs.Columns.{cell}
-use Rattle.capture.specs.Boards.{payload_by, payloads_by, data_in}
+use Rattle.capture.specs.Boards.{payload_by}
 use Rattle.capture.proofs.board.pack_held.Given as goal
 
 abbrev pub invariant-loop-i : goal.invariant-loop-i

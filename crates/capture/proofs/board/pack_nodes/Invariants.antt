@@ -1,9 +1,9 @@
-use Rattle.std.proofs.Common.{◌≡◌, ◌-◌, ◌≤◌, arith, rules}
-use Rattle.loops.specs.Upto.{upto, upto_none, upto_turn, upto_all}
+use Rattle.std.proofs.Common.{◌≡◌, ◌-◌, ◌≤◌}
+use Rattle.loops.specs.Upto.{upto}
 use Rattle.engines.specs.Clamp.{at_most64}
 use Rattle.engines.specs.Marked.{place}
 use Rattle.engines.specs.Nodes.{no_node}
-use Rattle.capture.specs.Boards.{node_by, nodes_by}
+use Rattle.capture.specs.Boards.{node_by}
 use Rattle.capture.proofs.board.pack_nodes.Given as goal
 
 abbrev pub invariant-loop-i : goal.invariant-loop-i

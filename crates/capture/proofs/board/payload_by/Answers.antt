@@ -1,5 +1,4 @@
-use Rattle.std.proofs.Common.{sym, ◌∙◌, rules}
-use borrow.Author.Tests.{not-true, not-false}
+use Rattle.std.proofs.Common.{sym, ◌∙◌}
 use Rattle.capture.specs.Boards.{payload_by, slip_by}
 use Rattle.capture.proofs.board.payload_by.Goals as goal
 

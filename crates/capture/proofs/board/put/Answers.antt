@@ -1,4 +1,4 @@
-use Rattle.std.proofs.Common.{eqb, ◌∙◌, rules}
+use Rattle.std.proofs.Common.{eqb, ◌∙◌}
 use Rattle.marks.specs.Marks.{has}
 use Rattle.capture.proofs.Unpacking.{put_with, put_without}
 use Rattle.capture.proofs.board.put.Goals as goal

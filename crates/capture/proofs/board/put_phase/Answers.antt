@@ -1,4 +1,4 @@
-use Rattle.std.proofs.Common.{true, false, sym, refl, rules}
+use Rattle.std.proofs.Common.{true, false, sym, refl}
 use Rattle.capture.proofs.Unpacking.{put_three}
 use Rattle.capture.proofs.board.put_phase.Goals as goal
 

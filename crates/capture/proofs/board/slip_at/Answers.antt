@@ -1,6 +1,5 @@
 use Rattle.capture.specs.Boards.{slip_by}
 use Rattle.engines.specs.Columns.{cell}
-use Rattle.std.proofs.Common.{rules}
 use Rattle.capture.proofs.board.slip_at.Goals as goal
 
 pub returns : goal.returns

@@ -1,7 +1,6 @@
-use Rattle.std.proofs.Common.{◌≡◌, ◌-◌, ◌≤◌, length, arith, rules}
+use Rattle.std.proofs.Common.{◌≡◌, ◌-◌, ◌≤◌, length}
 use Rattle.engines.specs.Clamp.{at_most64}
 use Rattle.capture.specs.Boards.{Taken}
-use Rattle.capture.proofs.Unpacking.{taken_none, taken_turn, taken_all}
 use Rattle.capture.proofs.board.take_all.Given as goal
 
 abbrev pub invariant-loop-i : goal.invariant-loop-i

@@ -1,5 +1,4 @@
 use Rattle.engines.specs.Columns.{row_put}
-use Rattle.std.proofs.Common.{rules}
 use Rattle.capture.proofs.board.take_position.Goals as goal
 
 pub returns : goal.returns

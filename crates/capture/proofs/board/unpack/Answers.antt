@@ -1,5 +1,4 @@
-use Rattle.std.proofs.Common.{◌≡◌, length, sym, ◌∙◌, rules}
-use lib.ListN.{length-map}
+use Rattle.std.proofs.Common.{◌≡◌, length, rules}
 use Rattle.capture.proofs.Unpacking.{shown_start}
 use Rattle.capture.proofs.board.unpack.Goals as goal
 

@@ -1,4 +1,4 @@
-use Rattle.std.proofs.Common.{refl, rules}
+use Rattle.std.proofs.Common.{refl}
 use Rattle.capture.proofs.Acting.{slot_acted}
 use Rattle.capture.proofs.capture.act.Goals as goal
 

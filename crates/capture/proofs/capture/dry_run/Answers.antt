@@ -1,8 +1,5 @@
-use Rattle.std.proofs.Common.{◌≡◌, ◌^◌, ◌<◌, rules}
-use Rattle.engines.specs.declared.network.RoundConf.{RoundConf}
-use Rattle.capture.specs.declared.capture.CeState.{CeState}
-use Rattle.capture.specs.Boards.{Shown, Goes}
-use Rattle.capture.proofs.Running.{Going, going_first, going_stop, going_short, going_none, going_turn}
+use Rattle.std.proofs.Common.{◌^◌, ◌<◌, rules}
+use Rattle.capture.proofs.Running.{going_first, going_stop, going_short, going_none, going_turn}
 use Rattle.capture.proofs.capture.dry_run.Goals as goal
 
 pub loop-left-init : goal.loop-left-init

@@ -1,8 +1,8 @@
-use Rattle.std.proofs.Common.{◌≡◌, ◌^◌, ◌<◌, rules}
+use Rattle.std.proofs.Common.{◌≡◌}
 use Rattle.engines.specs.declared.network.RoundConf.{RoundConf}
 use Rattle.capture.specs.declared.capture.CeState.{CeState}
 use Rattle.capture.specs.Boards.{Shown, Goes}
-use Rattle.capture.proofs.Running.{Going, going_first, going_stop, going_short, going_none, going_turn}
+use Rattle.capture.proofs.Running.{Going}
 use Rattle.capture.proofs.capture.dry_run.Given as goal
 
 abbrev pub invariant-loop-left : goal.invariant-loop-left

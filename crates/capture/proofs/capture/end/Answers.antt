@@ -1,4 +1,3 @@
-use Rattle.std.proofs.Common.{rules}
 use Rattle.capture.proofs.capture.end.Goals as goal
 
 pub returns : goal.returns

@@ -1,4 +1,4 @@
-use Rattle.std.proofs.Common.{sym, ◌∙◌, rules}
+use Rattle.std.proofs.Common.{sym, ◌∙◌}
 use Rattle.capture.proofs.Acting.{finished_goal, finished_acted}
 use Rattle.capture.proofs.capture.finish.Goals as goal
 

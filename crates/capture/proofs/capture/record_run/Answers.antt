@@ -1,12 +1,5 @@
-use Rattle.std.proofs.Common.{◌≡◌, sym, refl, ◌∙◌, rules}
-use lib.ListN as ListN
-use Rattle.engines.specs.Rows.{highest_progress}
-use Rattle.engines.specs.Rounds.{placed}
-use Rattle.engines.specs.declared.network.RoundConf.{RoundConf}
-use Rattle.capture.specs.Capture.{rows_of}
-use Rattle.capture.specs.declared.capture.CeState.{CeState}
-use Rattle.capture.specs.Boards.{Shown, Goes}
-use Rattle.capture.proofs.Running.{Writing, writing_first, writing_stop, writing_full, writing_none, writing_turn}
+use Rattle.std.proofs.Common.{sym, refl, ◌∙◌}
+use Rattle.capture.proofs.Running.{writing_first, writing_stop, writing_full, writing_none, writing_turn}
 use Rattle.capture.proofs.capture.record_run.Goals as goal
 
 pub loop-left-init : goal.loop-left-init
@@ -31,12 +24,11 @@ pub loop-left-smaller : goal.loop-left-smaller
 loop-left-smaller c = c.advance-s.ensures.left_lt_left
 
 pub loop-left-preserved : goal.loop-left-preserved
-loop-left-preserved c =
-    (
-      c.put_due-at.auto.rows ∙ c.loop-left.invariant.0,
-      λ conf base state g e o top. writing_turn _ conf base (c.loop-left.invariant.1 conf base state g e o top) _ top c.row_of.ensures
-          c.put_due-at.ensures.value c.put_due-at.ensures.rows_after (λ s shown. c.advance-s.ensures.advanced conf base s g shown),
-    )
+loop-left-preserved c = (
+  c.put_due-at.auto.rows ∙ c.loop-left.invariant.0,
+  λ conf base state g e o top. writing_turn _ conf base (c.loop-left.invariant.1 conf base state g e o top) _ top c.row_of.ensures
+      c.put_due-at.ensures.value c.put_due-at.ensures.rows_after (λ s shown. c.advance-s.ensures.advanced conf base s g shown),
+)
 
 pub shape_of-part : goal.shape_of-part
 shape_of-part c = c.loop-left.invariant.0

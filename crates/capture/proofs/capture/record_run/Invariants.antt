@@ -1,4 +1,4 @@
-use Rattle.std.proofs.Common.{◌≡◌, sym, refl, ◌∙◌, rules}
+use Rattle.std.proofs.Common.{◌≡◌}
 use lib.ListN as ListN
 use Rattle.engines.specs.Rows.{highest_progress}
 use Rattle.engines.specs.Rounds.{placed}
@@ -6,7 +6,7 @@ use Rattle.engines.specs.declared.network.RoundConf.{RoundConf}
 use Rattle.capture.specs.Capture.{rows_of}
 use Rattle.capture.specs.declared.capture.CeState.{CeState}
 use Rattle.capture.specs.Boards.{Shown, Goes}
-use Rattle.capture.proofs.Running.{Writing, writing_first, writing_stop, writing_full, writing_none, writing_turn}
+use Rattle.capture.proofs.Running.{Writing}
 use Rattle.capture.proofs.capture.record_run.Given as goal
 
 abbrev pub invariant-loop-left : goal.invariant-loop-left

@@ -1,4 +1,4 @@
-use Rattle.std.proofs.Common.{◌≡◌, ℕ, ◌+◌, ◌-◌, ◌*◌, ◌∙◌, arith, rules}
+use Rattle.std.proofs.Common.{◌≡◌, ℕ, ◌+◌, ◌-◌, ◌*◌, ◌∙◌, arith}
 use Rattle.engines.proofs.Rounds.{placed_whole}
 use Rattle.capture.specs.Capture.{rows_of, start_of}
 use Rattle.capture.proofs.Settling.{refused_early, refused_late, fits, many, accepted, quiet}

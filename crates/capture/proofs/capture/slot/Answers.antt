@@ -1,6 +1,5 @@
 use Rattle.capture.specs.Capture.{begun, slot_of}
 use Rattle.capture.proofs.Acting.{slot_begun}
-use Rattle.std.proofs.Common.{rules}
 use Rattle.capture.proofs.capture.slot.Goals as goal
 
 pub returns : goal.returns

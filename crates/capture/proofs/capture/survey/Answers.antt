@@ -1,4 +1,4 @@
-use Rattle.std.proofs.Common.{refl, rules}
+use Rattle.std.proofs.Common.{refl}
 use Rattle.capture.proofs.Acting.{goes}
 use Rattle.capture.proofs.Running.{surveyed_as}
 use Rattle.capture.proofs.capture.survey.Goals as goal

@@ -1,4 +1,4 @@
-use Rattle.std.proofs.Common.{sym, refl, rules}
+use Rattle.std.proofs.Common.{sym, refl}
 use Rattle.capture.proofs.Acting.{goes}
 use Rattle.capture.proofs.capture.write_rows.Goals as goal
 

@@ -1,11 +1,7 @@
-use Rattle.std.proofs.Common.{◌≡◌, ◌^◌, ◌<◌, refl, arith, rules}
-use Rattle.marks.specs.Marks.{count_of}
+use Rattle.std.proofs.Common.{refl, arith}
 use Rattle.marks.specs.Sets.{lowest_lt}
 use Rattle.engines.proofs.Marking.{without, over_less, over_turn, over_none}
-use Rattle.loops.specs.Wrap.{add64}
-use Rattle.engines.specs.Marked.{over_marks}
-use Rattle.engines.specs.Network.{on_air}
-use Rattle.capture.specs.Boards.{length_by, sent_by}
+use Rattle.capture.specs.Boards.{sent_by}
 use Rattle.capture.proofs.ce.bytes_of.Goals as goal
 
 pub loop-left-init : goal.loop-left-init

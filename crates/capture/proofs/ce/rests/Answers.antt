@@ -1,5 +1,4 @@
-use Rattle.std.proofs.Common.{sym, ◌∙◌, rules}
-use borrow.Author.Tests.{not-true, not-false}
+use Rattle.std.proofs.Common.{sym, ◌∙◌}
 use Rattle.capture.proofs.ce.rests.Goals as goal
 
 pub returns-then-not-is_decided : goal.returns-then-not-is_decided

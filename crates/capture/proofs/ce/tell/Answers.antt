@@ -1,4 +1,4 @@
-use Rattle.std.proofs.Common.{sym, ◌∙◌, arith, rules}
+use Rattle.std.proofs.Common.{sym, ◌∙◌, arith}
 use borrow.Author.Tests.{not-true, not-false}
 use Rattle.capture.proofs.Telling.{told_none, told_new, nobody_heard, nothing_heard, packet_heard, source_in, heard_as}
 use Rattle.capture.proofs.ce.tell.Goals as goal

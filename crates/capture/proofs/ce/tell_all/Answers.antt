@@ -1,11 +1,8 @@
-use Rattle.std.proofs.Common.{◌≡◌, ℕ, ◌^◌, ◌<◌, true, List, refl, ◌∙◌, arith, rules}
-use Rattle.marks.specs.Marks.{has, count_of}
+use Rattle.std.proofs.Common.{refl, ◌∙◌, arith}
 use Rattle.marks.specs.Sets.{lowest_lt}
 use Rattle.engines.proofs.Marking.{without, over_less}
-use Rattle.capture.specs.Boards.{ShownHeld, Kept, Apart}
-use Rattle.merges.specs.declared.merging.Payload.{Payload}
 use Rattle.capture.proofs.Holding.{held_length}
-use Rattle.capture.proofs.Telling.{Left, left_first, left_turn, left_held, left_news, within_turn}
+use Rattle.capture.proofs.Telling.{left_first, left_turn, left_held, left_news, within_turn}
 use Rattle.capture.proofs.ce.tell_all.Goals as goal
 
 pub loop-left-init : goal.loop-left-init
@@ -23,8 +20,7 @@ loop-left-smaller c = over_less (without _ _ _ c.loop-left.invariant.0 c.loop-le
 pub loop-left-preserved : goal.loop-left-preserved
 loop-left-preserved c =
     let w = without _ _ _ c.loop-left.invariant.0 c.loop-left-test.true c.lowest_mark-i.ensures c.without_mark-left.ensures in
-    let target = c.loop-left.invariant.1 _ w.there in
-    (
+    let target = c.loop-left.invariant.1 _ w.there in (
       omega arith,
       within_turn _ w c.loop-left.invariant.1,
       (λ q h. c.tell-t.ensures.kept q h ∙ c.loop-left.invariant.2 q h),

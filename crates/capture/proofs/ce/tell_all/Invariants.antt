@@ -1,11 +1,8 @@
-use Rattle.std.proofs.Common.{◌≡◌, ℕ, ◌^◌, ◌<◌, true, List, refl, ◌∙◌, arith, rules}
+use Rattle.std.proofs.Common.{◌≡◌, ℕ, ◌^◌, ◌<◌, true, List}
 use Rattle.marks.specs.Marks.{has, count_of}
-use Rattle.marks.specs.Sets.{lowest_lt}
-use Rattle.engines.proofs.Marking.{without, over_less}
 use Rattle.capture.specs.Boards.{ShownHeld, Kept, Apart}
 use Rattle.merges.specs.declared.merging.Payload.{Payload}
-use Rattle.capture.proofs.Holding.{held_length}
-use Rattle.capture.proofs.Telling.{Left, left_first, left_turn, left_held, left_news, within_turn}
+use Rattle.capture.proofs.Telling.{Left}
 use Rattle.capture.proofs.ce.tell_all.Given as goal
 
 abbrev pub invariant-loop-left : goal.invariant-loop-left

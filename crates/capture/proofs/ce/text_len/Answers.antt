@@ -1,5 +1,4 @@
-use Rattle.std.proofs.Common.{sym, ◌∙◌, rules}
-use borrow.Author.Tests.{not-true, not-false}
+use Rattle.std.proofs.Common.{sym, ◌∙◌}
 use Rattle.capture.specs.Boards.{length_by, slip_by}
 use Rattle.engines.specs.Columns.{cell}
 use Rattle.capture.proofs.ce.text_len.Goals as goal

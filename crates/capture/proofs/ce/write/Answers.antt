@@ -1,4 +1,4 @@
-use Rattle.std.proofs.Common.{refl, arith, rules}
+use Rattle.std.proofs.Common.{refl, arith}
 use Rattle.engines.specs.Columns.{row_put}
 use Rattle.engines.proofs.Marking.{with_is}
 use Rattle.capture.proofs.ce.write.Goals as goal

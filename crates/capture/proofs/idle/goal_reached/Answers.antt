@@ -1,4 +1,4 @@
-use Rattle.std.proofs.Common.{sym, ◌∙◌, arith, rules}
+use Rattle.std.proofs.Common.{sym, ◌∙◌, arith}
 use Rattle.capture.proofs.Resting.{goal_none, goal_beyond, goal_met, goal_left}
 use Rattle.capture.proofs.idle.goal_reached.Goals as goal
 

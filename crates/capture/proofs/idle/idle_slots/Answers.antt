@@ -17,7 +17,9 @@ returns-then-goal_reached c = record { upper_bound = omega arith; idle = λ conf
 pub returns : goal.returns
 returns c =
     let small : SmallBoard c.args.b = record { sent = search rules; timeouts = search rules; attempts = search rules; success = search rules } in
-    (record { upper_bound = omega (arith, c.shortest_wait.ensures.0, c.smaller-most.ensures); idle = λ conf base state links g o p. rests_idle conf base state links _ _ _ _ g o
+    (record {
+      upper_bound = omega (arith, c.shortest_wait.ensures.0, c.smaller-most.ensures);
+      idle = λ conf base state links g o p. rests_idle conf base state links _ _ _ _ g o
           (record {
             small = small;
             going = c.requires;
@@ -26,4 +28,5 @@ returns c =
             silent = c.if-b-ne0.false;
             awake = c.if-b-ne0-2.false;
             waits = c.shortest_wait.ensures.1 p;
-          }) })
+          });
+    })

@@ -1,8 +1,7 @@
-use Rattle.std.proofs.Common.{◌^◌, ◌<◌, ◌≤◌, arith, rules}
-use Rattle.marks.specs.Marks.{count_of}
+use Rattle.std.proofs.Common.{arith}
 use Rattle.engines.specs.Columns.{cell}
 use Rattle.engines.proofs.Marking.{without, over_less}
-use Rattle.capture.proofs.Resting.{Waited, waited_none, waited_more, waited_all}
+use Rattle.capture.proofs.Resting.{waited_none, waited_more, waited_all}
 use Rattle.capture.proofs.idle.shortest_wait.Goals as goal
 
 pub loop-left-init : goal.loop-left-init

@@ -1,8 +1,6 @@
-use Rattle.std.proofs.Common.{◌^◌, ◌<◌, ◌≤◌, arith, rules}
+use Rattle.std.proofs.Common.{◌^◌, ◌<◌, ◌≤◌}
 use Rattle.marks.specs.Marks.{count_of}
-use Rattle.engines.specs.Columns.{cell}
-use Rattle.engines.proofs.Marking.{without, over_less}
-use Rattle.capture.proofs.Resting.{Waited, waited_none, waited_more, waited_all}
+use Rattle.capture.proofs.Resting.{Waited}
 use Rattle.capture.proofs.idle.shortest_wait.Given as goal
 
 abbrev pub invariant-loop-left : goal.invariant-loop-left

@@ -1,5 +1,4 @@
 use Rattle.capture.proofs.Hearing.{capture_is}
-use Rattle.std.proofs.Common.{rules}
 use Rattle.capture.proofs.plan.capture.Goals as goal
 
 pub returns : goal.returns

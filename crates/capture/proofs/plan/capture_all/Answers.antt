@@ -1,8 +1,5 @@
-use Rattle.std.proofs.Common.{◌≡◌, ◌^◌, ◌<◌, refl, arith, rules}
-use Rattle.marks.specs.Marks.{count_of}
+use Rattle.std.proofs.Common.{refl, arith}
 use Rattle.marks.specs.Sets.{lowest_lt}
-use Rattle.engines.specs.Marked.{over_marks}
-use Rattle.capture.specs.Plan.{capture_at}
 use Rattle.engines.proofs.Marking.{without, over_less, over_turn, over_none}
 use Rattle.capture.proofs.plan.capture_all.Goals as goal
 

@@ -1,5 +1,4 @@
 use Rattle.capture.specs.Plan.{capture_at}
-use Rattle.std.proofs.Common.{rules}
 use Rattle.capture.proofs.plan.capture_at.Goals as goal
 
 pub returns : goal.returns

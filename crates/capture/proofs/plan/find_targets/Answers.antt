@@ -1,4 +1,4 @@
-use Rattle.std.proofs.Common.{arith, rules}
+use Rattle.std.proofs.Common.{arith}
 use Rattle.capture.proofs.Targets.{targets_is}
 use Rattle.capture.proofs.plan.find_targets.Goals as goal
 

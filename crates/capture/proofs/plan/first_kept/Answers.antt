@@ -1,6 +1,6 @@
-use Rattle.std.proofs.Common.{◌≡◌, ◌+◌, refl, ap, arith, rules}
-use Rattle.loops.specs.Runs.{runs, runs_none, runs_stop, runs_turn}
-use Rattle.capture.specs.Plan.{examine1, is_found, first_kept}
+use Rattle.std.proofs.Common.{refl, ap, arith, rules}
+use Rattle.loops.specs.Runs.{runs_none, runs_stop, runs_turn}
+use Rattle.capture.specs.Plan.{first_kept}
 use Rattle.capture.specs.declared.plan.Heard.{Heard}
 use Rattle.capture.proofs.Hearing.{examined_more}
 use Rattle.capture.proofs.plan.first_kept.Goals as goal

@@ -1,8 +1,5 @@
-use Rattle.std.proofs.Common.{◌≡◌, ◌+◌, ◌^◌, ◌<◌, ◌≤◌, refl, arith, rules}
-use Rattle.marks.specs.Marks.{count_of}
+use Rattle.std.proofs.Common.{refl, arith}
 use Rattle.marks.specs.Sets.{lowest_lt, count_le}
-use Rattle.engines.specs.Marked.{over_marks}
-use Rattle.capture.specs.Plan.{note_at}
 use Rattle.engines.proofs.Marking.{without, over_less, over_turn, over_none, some_marks}
 use Rattle.capture.proofs.plan.gather.Goals as goal
 

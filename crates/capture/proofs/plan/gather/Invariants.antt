@@ -1,9 +1,7 @@
-use Rattle.std.proofs.Common.{◌≡◌, ◌+◌, ◌^◌, ◌<◌, ◌≤◌, refl, arith, rules}
+use Rattle.std.proofs.Common.{◌≡◌, ◌+◌, ◌^◌, ◌<◌, ◌≤◌}
 use Rattle.marks.specs.Marks.{count_of}
-use Rattle.marks.specs.Sets.{lowest_lt, count_le}
 use Rattle.engines.specs.Marked.{over_marks}
 use Rattle.capture.specs.Plan.{note_at}
-use Rattle.engines.proofs.Marking.{without, over_less, over_turn, over_none, some_marks}
 use Rattle.capture.proofs.plan.gather.Given as goal
 
 abbrev pub invariant-loop-left : goal.invariant-loop-left

@@ -1,4 +1,4 @@
-use Rattle.std.proofs.Common.{arith, rules}
+use Rattle.std.proofs.Common.{arith}
 use Rattle.engines.proofs.Marking.{with_is}
 use Rattle.capture.proofs.plan.mark_if.Goals as goal
 

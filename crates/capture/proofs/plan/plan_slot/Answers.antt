@@ -1,5 +1,4 @@
 use Rattle.capture.proofs.Resting.{planned_by}
-use Rattle.std.proofs.Common.{rules}
 use Rattle.capture.proofs.plan.plan_slot.Goals as goal
 
 pub returns : goal.returns

@@ -1,5 +1,4 @@
 use Rattle.capture.specs.Plan.{tallied}
-use Rattle.std.proofs.Common.{rules}
 use Rattle.capture.proofs.plan.tally.Goals as goal
 
 pub returns : goal.returns

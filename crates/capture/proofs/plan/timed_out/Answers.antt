@@ -1,5 +1,4 @@
 use Rattle.capture.specs.Plan.{timed_out}
-use Rattle.std.proofs.Common.{rules}
 use Rattle.capture.proofs.plan.timed_out.Goals as goal
 
 pub returns : goal.returns

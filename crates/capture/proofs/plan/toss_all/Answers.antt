@@ -1,12 +1,7 @@
-use Rattle.std.proofs.Common.{◌≡◌, ℕ, ◌^◌, ◌<◌, List, refl, arith, rules}
-use Rattle.marks.specs.Marks.{count_of}
-use Rattle.engines.specs.Marked.{over_marks}
+use Rattle.std.proofs.Common.{refl, arith}
 use Rattle.engines.specs.Columns.{cell}
-use Rattle.capture.specs.Plan.{tossed1}
-use Rattle.capture.specs.Boards.{last_at, waiting_since, coins_by}
-use Rattle.capture.specs.declared.plan.Coins.{Coins}
+use Rattle.capture.specs.Boards.{coins_by}
 use Rattle.engines.proofs.Marking.{without, over_less, over_turn, over_none}
-use Rattle.capture.proofs.plan.toss_all.Invariants.{tossing}
 use Rattle.capture.proofs.plan.toss_all.Goals as goal
 
 pub loop-left-init : goal.loop-left-init

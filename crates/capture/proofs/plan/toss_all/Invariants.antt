@@ -1,11 +1,10 @@
-use Rattle.std.proofs.Common.{◌≡◌, ℕ, ◌^◌, ◌<◌, List, refl, arith, rules}
+use Rattle.std.proofs.Common.{◌≡◌, ℕ, ◌^◌, ◌<◌, List}
 use Rattle.marks.specs.Marks.{count_of}
 use Rattle.engines.specs.Marked.{over_marks}
 use Rattle.engines.specs.Columns.{cell}
 use Rattle.capture.specs.Plan.{tossed1}
-use Rattle.capture.specs.Boards.{last_at, waiting_since, coins_by}
+use Rattle.capture.specs.Boards.{last_at, waiting_since}
 use Rattle.capture.specs.declared.plan.Coins.{Coins}
-use Rattle.engines.proofs.Marking.{without, over_less, over_turn, over_none}
 use Rattle.capture.proofs.plan.toss_all.Given as goal
 
 -- the turn at position i

@@ -1,5 +1,4 @@
 use Rattle.capture.specs.Turns.{counted_slot}
-use Rattle.std.proofs.Common.{rules}
 use Rattle.capture.proofs.turns.count_slot.Goals as goal
 
 pub returns : goal.returns

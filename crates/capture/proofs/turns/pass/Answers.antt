@@ -1,5 +1,4 @@
 use Rattle.capture.specs.Boards.{passed_cells}
-use Rattle.std.proofs.Common.{rules}
 use Rattle.capture.proofs.turns.pass.Goals as goal
 
 pub returns : goal.returns

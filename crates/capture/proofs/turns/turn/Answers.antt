@@ -1,4 +1,4 @@
-use Rattle.std.proofs.Common.{refl, rules}
+use Rattle.std.proofs.Common.{refl}
 use Rattle.capture.proofs.turns.turn.Goals as goal
 
 pub returns : goal.returns

@@ -1,8 +1,5 @@
-use Rattle.std.proofs.Common.{◌≡◌, ◌^◌, ◌<◌, length, refl, ◌∙◌, arith, rules}
-use Rattle.loops.specs.Wrap.{add64}
-use Rattle.marks.specs.Marks.{count_of}
-use Rattle.engines.specs.Marked.{over_marks}
-use Rattle.engines.specs.Columns.{cell_by, raised_by}
+use Rattle.std.proofs.Common.{refl, ◌∙◌, arith}
+use Rattle.engines.specs.Columns.{raised_by}
 use Rattle.engines.proofs.Marking.{without, over_less, over_turn, over_none}
 use Rattle.engines.proofs.columns.raise.Goals as goal
 

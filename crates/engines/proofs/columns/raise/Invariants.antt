@@ -1,9 +1,8 @@
-use Rattle.std.proofs.Common.{◌≡◌, ◌^◌, ◌<◌, length, refl, ◌∙◌, arith, rules}
+use Rattle.std.proofs.Common.{◌≡◌, ◌^◌, ◌<◌, length}
 use Rattle.loops.specs.Wrap.{add64}
 use Rattle.marks.specs.Marks.{count_of}
 use Rattle.engines.specs.Marked.{over_marks}
-use Rattle.engines.specs.Columns.{cell_by, raised_by}
-use Rattle.engines.proofs.Marking.{without, over_less, over_turn, over_none}
+use Rattle.engines.specs.Columns.{cell_by}
 use Rattle.engines.proofs.columns.raise.Given as goal
 
 abbrev pub invariant-loop-left : goal.invariant-loop-left

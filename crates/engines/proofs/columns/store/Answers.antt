@@ -1,7 +1,5 @@
-use Rattle.std.proofs.Common.{◌≡◌, ◌^◌, ◌<◌, length, refl, ◌∙◌, arith, rules}
-use Rattle.marks.specs.Marks.{count_of}
-use Rattle.engines.specs.Marked.{over_marks}
-use Rattle.engines.specs.Columns.{cell_by, stored_as}
+use Rattle.std.proofs.Common.{refl, ◌∙◌, arith}
+use Rattle.engines.specs.Columns.{stored_as}
 use Rattle.engines.proofs.Marking.{without, over_less, over_turn, over_none}
 use Rattle.engines.proofs.columns.store.Goals as goal
 

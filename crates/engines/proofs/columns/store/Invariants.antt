@@ -1,8 +1,7 @@
-use Rattle.std.proofs.Common.{◌≡◌, ◌^◌, ◌<◌, length, refl, ◌∙◌, arith, rules}
+use Rattle.std.proofs.Common.{◌≡◌, ◌^◌, ◌<◌, length}
 use Rattle.marks.specs.Marks.{count_of}
 use Rattle.engines.specs.Marked.{over_marks}
-use Rattle.engines.specs.Columns.{cell_by, stored_as}
-use Rattle.engines.proofs.Marking.{without, over_less, over_turn, over_none}
+use Rattle.engines.specs.Columns.{cell_by}
 use Rattle.engines.proofs.columns.store.Given as goal
 
 abbrev pub invariant-loop-left : goal.invariant-loop-left

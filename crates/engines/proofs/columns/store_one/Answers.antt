@@ -1,4 +1,4 @@
-use Rattle.std.proofs.Common.{sym, arith, rules}
+use Rattle.std.proofs.Common.{sym, arith}
 use lib.Seq.{set_out}
 use Rattle.engines.proofs.columns.store_one.Goals as goal
 

@@ -1,4 +1,4 @@
-use Rattle.std.proofs.Common.{rules, eq-eqb, ne_eqb}
+use Rattle.std.proofs.Common.{eq-eqb, ne_eqb}
 use Rattle.engines.specs.Metrics.{ratio_of}
 use Rattle.engines.proofs.metrics.quotient.Goals as goal
 

@@ -1,4 +1,4 @@
-use Rattle.std.proofs.Common.{sym, ◌∙◌, rules}
+use Rattle.std.proofs.Common.{sym, ◌∙◌}
 use Rattle.engines.specs.Network.{late_of}
 use Rattle.engines.proofs.network.late_refusal.Goals as goal
 

@@ -1,4 +1,3 @@
-use Rattle.std.proofs.Common.{rules}
 use Rattle.engines.specs.Network.{on_air}
 use Rattle.engines.proofs.network.on_air.Goals as goal
 

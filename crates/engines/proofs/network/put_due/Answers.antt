@@ -1,5 +1,4 @@
-use Rattle.std.proofs.Common.{sym, ◌∙◌, arith, rules}
-use borrow.Author.Tests.{not-true, not-false}
+use Rattle.std.proofs.Common.{sym, ◌∙◌, arith}
 use Rattle.engines.proofs.Writing.{row_none, row_full, row_part}
 use Rattle.engines.proofs.network.put_due.Goals as goal
 
@@ -11,13 +10,19 @@ returns-then-rows-at c = record { value = (row_full c.args.slot c.args.r c.args.
 
 pub returns-then-rows-at-lt-ROW : goal.returns-then-rows-at-lt-ROW
 returns-then-rows-at-lt-ROW c =
-    record { value = (row_full c.args.slot c.args.r c.args.rows.now c.args.at (sym c.row_due.ensures ∙ c.if-not-row_due.false)
-    (omega (arith, c.if-rows-at-lt-ROW.true, c.if-rows-at.false))).0; rows_after = (row_full c.args.slot c.args.r c.args.rows.now c.args.at (sym c.row_due.ensures ∙ c.if-not-row_due.false)
-    (omega (arith, c.if-rows-at-lt-ROW.true, c.if-rows-at.false))).1 }
+    record {
+      value = (row_full c.args.slot c.args.r c.args.rows.now c.args.at (sym c.row_due.ensures ∙ c.if-not-row_due.false)
+          (omega (arith, c.if-rows-at-lt-ROW.true, c.if-rows-at.false))).0;
+      rows_after = (row_full c.args.slot c.args.r c.args.rows.now c.args.at (sym c.row_due.ensures ∙ c.if-not-row_due.false)
+          (omega (arith, c.if-rows-at-lt-ROW.true, c.if-rows-at.false))).1;
+    }
 
 pub returns : goal.returns
 returns c =
     rw c.put_row.ensures
-    (record { value = (row_part c.args.slot c.args.r c.args.rows.now c.args.at (sym c.row_due.ensures ∙ c.if-not-row_due.false)
-    (omega (arith, c.if-rows-at-lt-ROW.false, c.if-rows-at.false))).0; rows_after = (row_part c.args.slot c.args.r c.args.rows.now c.args.at (sym c.row_due.ensures ∙ c.if-not-row_due.false)
-    (omega (arith, c.if-rows-at-lt-ROW.false, c.if-rows-at.false))).1 })
+    (record {
+      value = (row_part c.args.slot c.args.r c.args.rows.now c.args.at (sym c.row_due.ensures ∙ c.if-not-row_due.false)
+          (omega (arith, c.if-rows-at-lt-ROW.false, c.if-rows-at.false))).0;
+      rows_after = (row_part c.args.slot c.args.r c.args.rows.now c.args.at (sym c.row_due.ensures ∙ c.if-not-row_due.false)
+          (omega (arith, c.if-rows-at-lt-ROW.false, c.if-rows-at.false))).1;
+    })

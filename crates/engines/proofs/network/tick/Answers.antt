@@ -1,4 +1,3 @@
-use Rattle.std.proofs.Common.{rules}
 use Rattle.engines.specs.Network.{ticking}
 use Rattle.engines.proofs.network.tick.Goals as goal
 

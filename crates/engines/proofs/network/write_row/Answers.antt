@@ -1,5 +1,4 @@
-use Rattle.std.proofs.Common.{sym, ◌∙◌, rules}
-use borrow.Author.Tests.{not-true}
+use Rattle.std.proofs.Common.{sym, ◌∙◌}
 use Rattle.engines.specs.Network.{slot_row}
 use Rattle.engines.proofs.Writing.{put_none}
 use Rattle.engines.proofs.network.write_row.Goals as goal

@@ -1,4 +1,4 @@
-use Rattle.std.proofs.Common.{sym, rules}
+use Rattle.std.proofs.Common.{sym}
 use Rattle.marks.specs.Marks.{has}
 use Rattle.marks.specs.Sets.{or_false}
 use Rattle.engines.proofs.node.note_state.Goals as goal

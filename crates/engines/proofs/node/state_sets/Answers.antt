@@ -1,5 +1,5 @@
-use Rattle.std.proofs.Common.{◌-◌, ◌^◌, ◌<◌, ◌≤◌, arith, rules}
-use Rattle.engines.proofs.Sorting.{Sorted, sorted_none, sorted_turn, sorted_all}
+use Rattle.std.proofs.Common.{arith, rules}
+use Rattle.engines.proofs.Sorting.{sorted_none, sorted_turn, sorted_all}
 use Rattle.engines.proofs.node.state_sets.Goals as goal
 
 pub loop-i-init : goal.loop-i-init

@@ -1,5 +1,5 @@
-use Rattle.std.proofs.Common.{◌-◌, ◌^◌, ◌<◌, ◌≤◌, arith, rules}
-use Rattle.engines.proofs.Sorting.{Sorted, sorted_none, sorted_turn, sorted_all}
+use Rattle.std.proofs.Common.{◌-◌, ◌^◌, ◌<◌, ◌≤◌}
+use Rattle.engines.proofs.Sorting.{Sorted}
 use Rattle.engines.proofs.node.state_sets.Given as goal
 
 abbrev pub invariant-loop-i : goal.invariant-loop-i

@@ -1,5 +1,5 @@
-use Rattle.std.proofs.Common.{◌≡◌, ◌-◌, ◌≤◌, rules}
-use Rattle.loops.specs.Upto.{upto, upto_none, upto_turn, upto_all}
+use Rattle.std.proofs.Common.{rules}
+use Rattle.loops.specs.Upto.{upto_none, upto_turn, upto_all}
 use Rattle.engines.specs.Nodes.{tick_at, ticked_all}
 use Rattle.engines.proofs.node.tick_all.Goals as goal
 

@@ -1,6 +1,6 @@
-use Rattle.std.proofs.Common.{◌≡◌, ◌-◌, ◌≤◌, rules}
-use Rattle.loops.specs.Upto.{upto, upto_none, upto_turn, upto_all}
-use Rattle.engines.specs.Nodes.{tick_at, ticked_all}
+use Rattle.std.proofs.Common.{◌≡◌, ◌-◌, ◌≤◌}
+use Rattle.loops.specs.Upto.{upto}
+use Rattle.engines.specs.Nodes.{tick_at}
 use Rattle.engines.proofs.node.tick_all.Given as goal
 
 abbrev pub invariant-loop-i : goal.invariant-loop-i

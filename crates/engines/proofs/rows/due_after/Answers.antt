@@ -1,4 +1,4 @@
-use Rattle.std.proofs.Common.{sym, ◌∙◌, rules}
+use Rattle.std.proofs.Common.{sym, ◌∙◌}
 use Rattle.engines.specs.Rows.{due_after}
 use Rattle.engines.proofs.rows.due_after.Goals as goal
 

@@ -1,7 +1,5 @@
-use Rattle.std.proofs.Common.{◌≡◌, ◌-◌, ◌≤◌, get_or, rules}
-use Rattle.loops.specs.Highest.{highest}
+use Rattle.std.proofs.Common.{rules}
 use Rattle.loops.specs.Upto.{upto_none, upto_turn, upto_all}
-use Rattle.engines.specs.Nodes.{no_node}
 use Rattle.engines.specs.Rows.{highest_progress}
 use Rattle.engines.proofs.rows.highest_progress.Goals as goal
 

@@ -1,8 +1,6 @@
-use Rattle.std.proofs.Common.{◌≡◌, ◌-◌, ◌≤◌, get_or, rules}
+use Rattle.std.proofs.Common.{◌≡◌, ◌-◌, ◌≤◌, get_or}
 use Rattle.loops.specs.Highest.{highest}
-use Rattle.loops.specs.Upto.{upto_none, upto_turn, upto_all}
 use Rattle.engines.specs.Nodes.{no_node}
-use Rattle.engines.specs.Rows.{highest_progress}
 use Rattle.engines.proofs.rows.highest_progress.Given as goal
 
 abbrev pub invariant-loop-i : goal.invariant-loop-i

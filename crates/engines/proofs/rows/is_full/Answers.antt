@@ -1,4 +1,4 @@
-use Rattle.std.proofs.Common.{◌-◌, sym, arith, rules, lt-ltb}
+use Rattle.std.proofs.Common.{◌-◌, sym, arith, lt-ltb}
 use Rattle.engines.proofs.rows.is_full.Goals as goal
 
 pub returns-then-numbers-at : goal.returns-then-numbers-at

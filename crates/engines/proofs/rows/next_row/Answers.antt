@@ -1,5 +1,4 @@
 use Rattle.engines.specs.Rows.{next_row}
-use Rattle.std.proofs.Common.{rules}
 use Rattle.engines.proofs.rows.next_row.Goals as goal
 
 pub returns-then-row_due : goal.returns-then-row_due

@@ -1,4 +1,4 @@
-use Rattle.std.proofs.Common.{arith, length-set, rules, le-ltb, lt-ltb}
+use Rattle.std.proofs.Common.{arith, length-set, le-ltb, lt-ltb}
 use Rattle.engines.specs.Rows.{put_row}
 use Rattle.engines.proofs.rows.put_row.Goals as goal
 

@@ -1,5 +1,4 @@
 use Rattle.engines.specs.Rows.{row_of}
-use Rattle.std.proofs.Common.{rules}
 use Rattle.engines.proofs.rows.take_snapshot.Goals as goal
 
 pub returns : goal.returns

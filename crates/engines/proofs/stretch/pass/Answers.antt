@@ -1,5 +1,4 @@
 use Rattle.engines.specs.Stretch.{passed}
-use Rattle.std.proofs.Common.{rules}
 use Rattle.engines.proofs.stretch.pass.Goals as goal
 
 pub returns-in-Listen : goal.returns-in-Listen

@@ -1,8 +1,6 @@
-use Rattle.std.proofs.Common.{◌≡◌, ◌-◌, ◌≤◌, rules}
-use Rattle.loops.specs.Upto.{upto, upto_none, upto_turn, upto_all}
-use Rattle.loops.specs.Each.{each}
-use Rattle.engines.specs.Nodes.{no_node}
-use Rattle.engines.specs.Stretch.{passed, passed_all}
+use Rattle.std.proofs.Common.{rules}
+use Rattle.loops.specs.Upto.{upto_none, upto_turn, upto_all}
+use Rattle.engines.specs.Stretch.{passed_all}
 use Rattle.engines.proofs.stretch.pass_all.Goals as goal
 
 pub loop-i-init : goal.loop-i-init

@@ -1,8 +1,8 @@
-use Rattle.std.proofs.Common.{◌≡◌, ◌-◌, ◌≤◌, rules}
-use Rattle.loops.specs.Upto.{upto, upto_none, upto_turn, upto_all}
+use Rattle.std.proofs.Common.{◌≡◌, ◌-◌, ◌≤◌}
+use Rattle.loops.specs.Upto.{upto}
 use Rattle.loops.specs.Each.{each}
 use Rattle.engines.specs.Nodes.{no_node}
-use Rattle.engines.specs.Stretch.{passed, passed_all}
+use Rattle.engines.specs.Stretch.{passed}
 use Rattle.engines.proofs.stretch.pass_all.Given as goal
 
 abbrev pub invariant-loop-i : goal.invariant-loop-i

@@ -1,5 +1,4 @@
 use Rattle.engines.specs.Words.{lost_of}
-use Rattle.std.proofs.Common.{rules}
 use Rattle.engines.proofs.words.lost.Goals as goal
 
 pub returns : goal.returns

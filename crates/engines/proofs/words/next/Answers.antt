@@ -1,4 +1,4 @@
-use Rattle.std.proofs.Common.{rules, le-ltb, lt-ltb}
+use Rattle.std.proofs.Common.{le-ltb, lt-ltb}
 use Rattle.engines.specs.Words.{next_of}
 use Rattle.engines.proofs.words.next.Goals as goal
 

@@ -1,4 +1,4 @@
-use Rattle.std.proofs.Common.{refl, arith, rules}
+use Rattle.std.proofs.Common.{refl, arith}
 use Rattle.engines.specs.Words.{pick_of}
 use Rattle.engines.proofs.Drawing.{pick_top}
 use Rattle.engines.proofs.words.pick.Goals as goal

@@ -1,6 +1,6 @@
-use Rattle.std.proofs.Common.{◌≡◌, ◌-◌, ◌<◌, refl, arith, rules}
+use Rattle.std.proofs.Common.{refl, arith, rules}
 use Rattle.loops.specs.Downto.{downto, downto_turn, downto_none}
-use Rattle.engines.specs.Words.{swap_step, shuffled}
+use Rattle.engines.specs.Words.{shuffled}
 use Rattle.engines.proofs.words.shuffle.Goals as goal
 
 pub returns-then-last-eq0 : goal.returns-then-last-eq0

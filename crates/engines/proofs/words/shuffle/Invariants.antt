@@ -1,6 +1,6 @@
-use Rattle.std.proofs.Common.{◌≡◌, ◌-◌, ◌<◌, refl, arith, rules}
-use Rattle.loops.specs.Downto.{downto, downto_turn, downto_none}
-use Rattle.engines.specs.Words.{swap_step, shuffled}
+use Rattle.std.proofs.Common.{◌≡◌, ◌-◌, ◌<◌}
+use Rattle.loops.specs.Downto.{downto}
+use Rattle.engines.specs.Words.{swap_step}
 use Rattle.engines.proofs.words.shuffle.Given as goal
 
 abbrev pub invariant-loop-i : goal.invariant-loop-i

@@ -1,4 +1,4 @@
-use Rattle.std.proofs.Common.{arith, rules}
+use Rattle.std.proofs.Common.{arith}
 use Rattle.engines.proofs.Drawing.{pick_le}
 use Rattle.engines.specs.Words.{swap_step}
 use Rattle.engines.proofs.words.swap_step.Goals as goal

@@ -1,5 +1,3 @@
-use borrow.Author.Rules.{rules}
-use borrow.Author.Tests.{not-true, not-false}
 use Rattle.engines_c.proofs.Refusing.{no_links, no_loss, none_between, no_position_lem, no_payload, not_refused}
 use Rattle.engines_c.proofs.console.asked.Goals as goal
 

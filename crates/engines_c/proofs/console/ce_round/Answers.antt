@@ -1,4 +1,3 @@
-use borrow.Author.Rules.{rules}
 use Rattle.engines.specs.declared.network.RoundConf.{RoundConf}
 use Rattle.engines_c.specs.Console.{conf_of}
 use Rattle.engines_c.proofs.Stating.{not_asked, not_run, all_run}

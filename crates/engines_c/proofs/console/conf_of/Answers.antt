@@ -1,4 +1,3 @@
-use borrow.Author.Rules.{rules}
 use Rattle.engines_c.proofs.console.conf_of.Goals as goal
 
 pub returns : goal.returns

@@ -1,11 +1,8 @@
-use mathlib.Core.Path.{◌≡◌, ◌∙◌}
-use Prim.Native.Nat.{◌≤◌, ◌-◌}
+use mathlib.Core.Path.{◌∙◌}
 use native.Mathlib.Omega.{arith}
-use lib.ListN.{get_or}
-use Rattle.loops.specs.Table.{filled, filled_none, filled_turn, filled_all}
+use Rattle.loops.specs.Table.{filled_none, filled_turn, filled_all}
 use Rattle.engines_c.specs.Console.{links_of}
 use Rattle.engines_c.proofs.Storing.{filled_whole}
-use borrow.Author.Rules.{rules}
 use Rattle.engines_c.proofs.console.links_of.Goals as goal
 
 pub loop-i-init : goal.loop-i-init

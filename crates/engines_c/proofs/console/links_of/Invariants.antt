@@ -1,11 +1,7 @@
-use mathlib.Core.Path.{◌≡◌, ◌∙◌}
+use mathlib.Core.Path.{◌≡◌}
 use Prim.Native.Nat.{◌≤◌, ◌-◌}
-use native.Mathlib.Omega.{arith}
 use lib.ListN.{get_or}
-use Rattle.loops.specs.Table.{filled, filled_none, filled_turn, filled_all}
-use Rattle.engines_c.specs.Console.{links_of}
-use Rattle.engines_c.proofs.Storing.{filled_whole}
-use borrow.Author.Rules.{rules}
+use Rattle.loops.specs.Table.{filled}
 use Rattle.engines_c.proofs.console.links_of.Given as goal
 
 abbrev pub invariant-loop-i : goal.invariant-loop-i

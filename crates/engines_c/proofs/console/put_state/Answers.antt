@@ -1,5 +1,4 @@
 use Rattle.engines_c.proofs.Stating.{state_put}
-use borrow.Author.Rules.{rules}
 use Rattle.engines_c.proofs.console.put_state.Goals as goal
 
 pub returns : goal.returns

@@ -1,5 +1,4 @@
 use Rattle.engines_c.specs.Console.{state_at}
-use borrow.Author.Rules.{rules}
 use Rattle.engines_c.proofs.console.state_of.Goals as goal
 
 pub returns : goal.returns

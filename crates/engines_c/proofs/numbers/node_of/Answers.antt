@@ -1,5 +1,4 @@
 use Rattle.engines_c.specs.Numbers.{node_at}
-use borrow.Author.Rules.{rules}
 use Rattle.engines_c.proofs.numbers.node_of.Goals as goal
 
 pub returns : goal.returns

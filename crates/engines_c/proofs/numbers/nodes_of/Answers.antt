@@ -1,10 +1,8 @@
-use mathlib.Core.Path.{◌≡◌, ◌∙◌}
-use Prim.Native.Nat.{◌*◌, ◌≤◌, ◌-◌}
+use mathlib.Core.Path.{◌∙◌}
 use native.Mathlib.Omega.{arith}
-use Rattle.loops.specs.Table.{filled, filled_none, filled_turn, filled_all}
+use Rattle.loops.specs.Table.{filled_none, filled_turn, filled_all}
 use Rattle.engines.specs.Nodes.{no_node}
-use Rattle.engines_c.specs.Numbers.{node_at, nodes_at}
-use borrow.Author.Rules.{rules}
+use Rattle.engines_c.specs.Numbers.{nodes_at}
 use Rattle.engines_c.proofs.Storing.{filled_whole}
 use Rattle.engines_c.proofs.numbers.nodes_of.Goals as goal
 

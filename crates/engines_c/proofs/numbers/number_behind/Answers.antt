@@ -2,7 +2,6 @@ use mathlib.Core.Path.{sym}
 use Prim.Native.Nat.{◌+◌}
 use native.Mathlib.Omega.{arith}
 use lib.ListN.{get_or-eq_default}
-use borrow.Author.Rules.{rules}
 use Rattle.engines_c.proofs.numbers.number_behind.Goals as goal
 
 pub returns-then-xs-at : goal.returns-then-xs-at

@@ -1,6 +1,5 @@
 use mathlib.Core.Path.{sym}
 use lib.Seq.{set_out}
-use borrow.Author.Rules.{rules}
 use Rattle.engines_c.proofs.numbers.put.Goals as goal
 
 pub returns-then-xs-i : goal.returns-then-xs-i

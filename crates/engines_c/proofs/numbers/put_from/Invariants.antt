@@ -1,11 +1,7 @@
-use mathlib.Core.Path.{◌≡◌, refl, ap, ◌∙◌}
-use mathlib.Core.List.{List}
-use Prim.Native.Nat.{ℕ, ◌+◌, ◌≤◌, ◌-◌}
-use native.Mathlib.Omega.{arith}
-use lib.ListN.{length, take, get_or, set}
-use lib.Seq.{sets, length-sets, take_all}
-use borrow.Author.Rules.{rules}
-use Rattle.engines_c.proofs.Storing.{run_turn}
+use mathlib.Core.Path.{◌≡◌}
+use Prim.Native.Nat.{◌≤◌, ◌-◌}
+use lib.ListN.{length, take}
+use lib.Seq.{sets}
 use Rattle.engines_c.proofs.numbers.put_from.Given as goal
 
 abbrev pub invariant-loop-i : goal.invariant-loop-i

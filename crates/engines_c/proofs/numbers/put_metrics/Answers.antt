@@ -1,6 +1,5 @@
 use mathlib.Core.Path.{◌∙◌}
 use native.Mathlib.Nat.{add-zero}
-use borrow.Author.Rules.{rules}
 use Rattle.engines_c.proofs.numbers.put_metrics.Goals as goal
 
 pub returns : goal.returns

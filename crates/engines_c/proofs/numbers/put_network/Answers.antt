@@ -1,5 +1,4 @@
 use Rattle.engines_c.proofs.Stating.{network_put}
-use borrow.Author.Rules.{rules}
 use Rattle.engines_c.proofs.numbers.put_network.Goals as goal
 
 pub returns : goal.returns

@@ -1,7 +1,6 @@
 use mathlib.Core.Path.{ap, ◌∙◌}
 use Prim.Native.Nat.{◌+◌}
 use lib.Seq.{sets}
-use borrow.Author.Rules.{rules}
 use Rattle.engines_c.proofs.numbers.put_node.Goals as goal
 
 pub returns : goal.returns

@@ -1,7 +1,6 @@
 use mathlib.Core.Path.{sym}
 use Prim.Native.Nat.{◌+◌}
 use native.Mathlib.Omega.{arith}
-use borrow.Author.Rules.{rules}
 use Rattle.engines_c.proofs.Storing.{sets_out}
 use Rattle.engines_c.proofs.numbers.put_run.Goals as goal
 

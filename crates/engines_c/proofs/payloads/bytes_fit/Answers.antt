@@ -1,14 +1,7 @@
-use mathlib.Core.Path.{◌≡◌, sym}
-use mathlib.Core.Bool.{Bool, true}
-use mathlib.Core.List.{List}
-use Prim.Native.Nat.{ℕ, ◌+◌, ◌≤◌, ◌-◌}
+use mathlib.Core.Path.{sym}
 use native.Mathlib.Omega.{arith}
-use lib.Dec.{leb}
-use borrow.Author.Rules.{rules}
 use borrow.Author.Tests.{le-leb, lt-leb}
-use Rattle.marks.specs.Marks.{all_of}
 use Rattle.marks.specs.Sets.{all_none, all_more, all_left, all_done}
-use Rattle.engines_c.specs.Numbers.{cell}
 use Rattle.engines_c.specs.Payloads.{bytes_fit}
 use Rattle.engines_c.proofs.payloads.bytes_fit.Invariants.{fit}
 use Rattle.engines_c.proofs.payloads.bytes_fit.Goals as goal
@@ -23,12 +16,11 @@ returns-then-number_behind-gt255 c =
     (lt-leb _ _ (rw c.number_behind.ensures at c.if-number_behind-gt255.true)))
 
 pub loop-i-preserved : goal.loop-i-preserved
-loop-i-preserved c =
-    (
-      omega arith,
-      all_more (fit c.args.xs.now c.args.at c.args.k) c.loop-i.i c.loop-i.invariant.1
-          (le-leb _ _ (rw c.number_behind.ensures at c.if-number_behind-gt255.false)),
-    )
+loop-i-preserved c = (
+  omega arith,
+  all_more (fit c.args.xs.now c.args.at c.args.k) c.loop-i.i c.loop-i.invariant.1
+      (le-leb _ _ (rw c.number_behind.ensures at c.if-number_behind-gt255.false)),
+)
 
 pub returns : goal.returns
 unfolding bytes_fit

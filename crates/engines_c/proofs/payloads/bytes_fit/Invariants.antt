@@ -1,15 +1,10 @@
-use mathlib.Core.Path.{◌≡◌, sym}
+use mathlib.Core.Path.{◌≡◌}
 use mathlib.Core.Bool.{Bool, true}
 use mathlib.Core.List.{List}
 use Prim.Native.Nat.{ℕ, ◌+◌, ◌≤◌, ◌-◌}
-use native.Mathlib.Omega.{arith}
 use lib.Dec.{leb}
-use borrow.Author.Rules.{rules}
-use borrow.Author.Tests.{le-leb, lt-leb}
 use Rattle.marks.specs.Marks.{all_of}
-use Rattle.marks.specs.Sets.{all_none, all_more, all_left, all_done}
 use Rattle.engines_c.specs.Numbers.{cell}
-use Rattle.engines_c.specs.Payloads.{bytes_fit}
 use Rattle.engines_c.proofs.payloads.bytes_fit.Given as goal
 
 -- whether number j is a byte

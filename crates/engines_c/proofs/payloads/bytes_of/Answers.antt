@@ -1,11 +1,8 @@
-use mathlib.Core.Path.{◌≡◌, ◌∙◌}
-use Prim.Native.Nat.{◌+◌, ◌%◌, ◌≤◌, ◌-◌}
+use mathlib.Core.Path.{◌∙◌}
 use native.Mathlib.Omega.{arith}
-use Rattle.loops.specs.Table.{filled, filled_none, filled_turn, filled_all}
-use Rattle.engines_c.specs.Numbers.{cell}
+use Rattle.loops.specs.Table.{filled_none, filled_turn, filled_all}
 use Rattle.engines_c.specs.Payloads.{bytes_at}
 use Rattle.engines_c.proofs.Storing.{filled_whole}
-use borrow.Author.Rules.{rules}
 use Rattle.engines_c.proofs.payloads.bytes_of.Goals as goal
 
 pub loop-i-init : goal.loop-i-init

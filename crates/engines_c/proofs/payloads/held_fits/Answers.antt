@@ -1,13 +1,7 @@
-use mathlib.Core.Path.{◌≡◌, sym, ◌∙◌}
-use mathlib.Core.Bool.{Bool, true}
-use mathlib.Core.List.{List}
-use Prim.Native.Nat.{ℕ, ◌*◌, ◌≤◌, ◌-◌}
+use mathlib.Core.Path.{sym, ◌∙◌}
 use native.Mathlib.Omega.{arith}
-use borrow.Author.Rules.{rules}
-use borrow.Author.Tests.{not-true, not-false}
-use Rattle.marks.specs.Marks.{all_of}
 use Rattle.marks.specs.Sets.{all_none, all_more, all_left, all_done}
-use Rattle.engines_c.specs.Payloads.{payload_fits, held_fits}
+use Rattle.engines_c.specs.Payloads.{held_fits}
 use Rattle.engines_c.proofs.payloads.held_fits.Invariants.{fit}
 use Rattle.engines_c.proofs.payloads.held_fits.Goals as goal
 
@@ -22,12 +16,11 @@ returns-then-not-payload_fits c =
     (sym c.payload_fits.ensures ∙ c.if-not-payload_fits.true)))
 
 pub loop-i-preserved : goal.loop-i-preserved
-loop-i-preserved c =
-    (
-      omega arith,
-      all_more (fit c.args.xs.now c.args.at) c.loop-i.i c.loop-i.invariant.1
-          (sym c.payload_fits.ensures ∙ c.if-not-payload_fits.false),
-    )
+loop-i-preserved c = (
+  omega arith,
+  all_more (fit c.args.xs.now c.args.at) c.loop-i.i c.loop-i.invariant.1
+      (sym c.payload_fits.ensures ∙ c.if-not-payload_fits.false),
+)
 
 pub returns : goal.returns
 unfolding held_fits

@@ -1,13 +1,9 @@
-use mathlib.Core.Path.{◌≡◌, sym, ◌∙◌}
+use mathlib.Core.Path.{◌≡◌}
 use mathlib.Core.Bool.{Bool, true}
 use mathlib.Core.List.{List}
 use Prim.Native.Nat.{ℕ, ◌*◌, ◌≤◌, ◌-◌}
-use native.Mathlib.Omega.{arith}
-use borrow.Author.Rules.{rules}
-use borrow.Author.Tests.{not-true, not-false}
 use Rattle.marks.specs.Marks.{all_of}
-use Rattle.marks.specs.Sets.{all_none, all_more, all_left, all_done}
-use Rattle.engines_c.specs.Payloads.{payload_fits, held_fits}
+use Rattle.engines_c.specs.Payloads.{payload_fits}
 use Rattle.engines_c.proofs.payloads.held_fits.Given as goal
 
 -- whether the numbers of position j are those of a payload

@@ -1,10 +1,7 @@
-use mathlib.Core.Path.{◌≡◌, ◌∙◌}
+use mathlib.Core.Path.{◌≡◌}
 use Prim.Native.Nat.{◌*◌, ◌≤◌, ◌-◌}
-use native.Mathlib.Omega.{arith}
-use Rattle.loops.specs.Table.{filled, filled_none, filled_turn, filled_all}
-use Rattle.engines_c.specs.Payloads.{payload_at, held_at}
-use Rattle.engines_c.proofs.Storing.{filled_whole}
-use borrow.Author.Rules.{rules}
+use Rattle.loops.specs.Table.{filled}
+use Rattle.engines_c.specs.Payloads.{payload_at}
 use Rattle.engines_c.proofs.payloads.held_of.Given as goal
 
 abbrev pub invariant-loop-i : goal.invariant-loop-i

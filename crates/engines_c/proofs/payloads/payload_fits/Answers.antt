@@ -1,5 +1,3 @@
-use borrow.Author.Rules.{rules}
-use borrow.Author.Tests.{not-true, not-false}
 use Rattle.engines_c.proofs.Fitting.{no_kind, no_phase, no_lengths, by_bytes}
 use Rattle.engines_c.proofs.payloads.payload_fits.Goals as goal
 

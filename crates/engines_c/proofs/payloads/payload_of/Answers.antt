@@ -1,4 +1,3 @@
-use borrow.Author.Rules.{rules}
 use Rattle.engines_c.specs.Payloads.{payload_at}
 use Rattle.engines_c.proofs.payloads.payload_of.Goals as goal
 

@@ -1,12 +1,11 @@
-use mathlib.Core.Path.{◌≡◌, ap, ◌∙◌}
-use Prim.Native.Nat.{◌*◌, ◌≤◌, ◌-◌}
+use mathlib.Core.Path.{ap, ◌∙◌}
+use Prim.Native.Nat.{◌*◌}
 use native.Mathlib.Omega.{arith}
 use lib.ListN.{length, get_or}
-use Rattle.loops.specs.Upto.{upto, upto_none, upto_turn, upto_all, upto_keeps}
+use Rattle.loops.specs.Upto.{upto_none, upto_turn, upto_all, upto_keeps}
 use Rattle.merges.specs.Merging.{no_payload}
 use Rattle.engines_c.specs.Payloads.{put_place, put_held}
 use Rattle.engines_c.proofs.Storing.{put_payload_length}
-use borrow.Author.Rules.{rules}
 use Rattle.engines_c.proofs.payloads.put_held.Goals as goal
 
 pub loop-i-init : goal.loop-i-init

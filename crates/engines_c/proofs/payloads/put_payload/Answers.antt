@@ -1,5 +1,4 @@
 use Prim.Native.Nat.{◌+◌}
-use borrow.Author.Rules.{rules}
 use Rattle.engines_c.specs.Payloads.{payload_numbers, put_payload}
 use Rattle.engines_c.proofs.Storing.{put_two}
 use Rattle.engines_c.proofs.payloads.put_payload.Goals as goal

@@ -1,8 +1,7 @@
 use mathlib.Core.Path.{◌≡◌, refl, ◌∙◌}
-use Prim.Native.Nat.{◌≤◌, ◌-◌}
 use native.Mathlib.Omega.{arith}
-use lib.ListN.{get_or, length}
-use Rattle.loops.specs.Table.{filled, filled_none, filled_turn, filled_all}
+use lib.ListN.{length}
+use Rattle.loops.specs.Table.{filled_none, filled_turn, filled_all}
 use Rattle.engines_c.proofs.Storing.{filled_copy}
 use borrow.Author.Rules.{rules}
 use Rattle.engines_c.proofs.payloads.widened.Goals as goal

@@ -1,10 +1,7 @@
-use mathlib.Core.Path.{◌≡◌, refl, ◌∙◌}
+use mathlib.Core.Path.{◌≡◌}
 use Prim.Native.Nat.{◌≤◌, ◌-◌}
-use native.Mathlib.Omega.{arith}
-use lib.ListN.{get_or, length}
-use Rattle.loops.specs.Table.{filled, filled_none, filled_turn, filled_all}
-use Rattle.engines_c.proofs.Storing.{filled_copy}
-use borrow.Author.Rules.{rules}
+use lib.ListN.{get_or}
+use Rattle.loops.specs.Table.{filled}
 use Rattle.engines_c.proofs.payloads.widened.Given as goal
 
 abbrev pub invariant-loop-i : goal.invariant-loop-i

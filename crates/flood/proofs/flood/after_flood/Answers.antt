@@ -1,4 +1,4 @@
-use Rattle.std.proofs.Common.{rules, le-leb}
+use Rattle.std.proofs.Common.{le-leb}
 use borrow.Author.Tests.{lt-leb}
 use Rattle.flood.specs.Flood.{after_flood}
 use Rattle.flood.proofs.flood.after_flood.Goals as goal

@@ -1,5 +1,4 @@
 use Rattle.flood.specs.Flood.{after_listen}
-use Rattle.std.proofs.Common.{rules}
 use Rattle.flood.proofs.flood.after_listen.Goals as goal
 
 pub returns-then-heard : goal.returns-then-heard

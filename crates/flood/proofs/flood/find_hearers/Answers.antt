@@ -1,4 +1,4 @@
-use Rattle.std.proofs.Common.{arith, rules}
+use Rattle.std.proofs.Common.{arith}
 use Rattle.flood.proofs.Hearers.{hearers_is}
 use Rattle.flood.proofs.flood.find_hearers.Goals as goal
 

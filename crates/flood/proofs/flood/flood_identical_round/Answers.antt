@@ -1,4 +1,4 @@
-use Rattle.std.proofs.Common.{sym, ◌∙◌, rules}
+use Rattle.std.proofs.Common.{sym, ◌∙◌}
 use Rattle.flood.proofs.Flooding.{flooded_short, flooded_whole}
 use Rattle.flood.proofs.flood.flood_identical_round.Goals as goal
 

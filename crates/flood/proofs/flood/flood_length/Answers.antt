@@ -1,4 +1,4 @@
-use Rattle.std.proofs.Common.{arith, rules}
+use Rattle.std.proofs.Common.{arith}
 use Rattle.flood.proofs.Flooding.{length_fits, length_short, length_long}
 use Rattle.flood.specs.Flood.{flood_length}
 use Rattle.flood.proofs.flood.flood_length.Goals as goal

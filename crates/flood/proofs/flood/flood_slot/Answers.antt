@@ -1,6 +1,5 @@
 use Rattle.engines.specs.Network.{ticking}
 use Rattle.flood.specs.Flood.{flood_slot}
-use Rattle.std.proofs.Common.{rules}
 use Rattle.flood.proofs.flood.flood_slot.Goals as goal
 
 pub returns : goal.returns

@@ -1,5 +1,4 @@
 use Rattle.flood.specs.Flood.{hear_at}
-use Rattle.std.proofs.Common.{rules}
 use Rattle.flood.proofs.flood.hear.Goals as goal
 
 pub returns-then-loss : goal.returns-then-loss

@@ -1,5 +1,4 @@
 use Rattle.flood.specs.Flood.{nobody_floods}
-use Rattle.std.proofs.Common.{rules}
 use Rattle.flood.proofs.flood.nobody_floods.Goals as goal
 
 pub returns : goal.returns

@@ -1,5 +1,5 @@
-use Rattle.std.proofs.Common.{◌≡◌, ◌-◌, ◌≤◌, rules}
-use Rattle.loops.specs.Upto.{upto, upto_none, upto_turn, upto_all}
+use Rattle.std.proofs.Common.{rules}
+use Rattle.loops.specs.Upto.{upto_none, upto_turn, upto_all}
 use Rattle.flood.specs.Flood.{reset_at, reset_all}
 use Rattle.flood.proofs.flood.reset_all.Goals as goal
 

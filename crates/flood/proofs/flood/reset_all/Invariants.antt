@@ -1,6 +1,6 @@
-use Rattle.std.proofs.Common.{◌≡◌, ◌-◌, ◌≤◌, rules}
-use Rattle.loops.specs.Upto.{upto, upto_none, upto_turn, upto_all}
-use Rattle.flood.specs.Flood.{reset_at, reset_all}
+use Rattle.std.proofs.Common.{◌≡◌, ◌-◌, ◌≤◌}
+use Rattle.loops.specs.Upto.{upto}
+use Rattle.flood.specs.Flood.{reset_at}
 use Rattle.flood.proofs.flood.reset_all.Given as goal
 
 abbrev pub invariant-loop-i : goal.invariant-loop-i

@@ -1,8 +1,5 @@
-use Rattle.std.proofs.Common.{◌≡◌, ◌-◌, ◌^◌, ◌<◌, refl, arith, rules}
-use Rattle.marks.specs.Marks.{count_of}
-use Rattle.engines.specs.Marked.{over_marks}
+use Rattle.std.proofs.Common.{refl, arith}
 use Rattle.engines.proofs.Marking.{without, over_less, over_turn, over_none}
-use Rattle.flood.specs.Flood.{hear_at}
 use Rattle.flood.proofs.flood.send.Goals as goal
 
 pub loop-left-init : goal.loop-left-init

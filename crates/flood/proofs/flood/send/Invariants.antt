@@ -1,7 +1,6 @@
-use Rattle.std.proofs.Common.{◌≡◌, ◌-◌, ◌^◌, ◌<◌, refl, arith, rules}
+use Rattle.std.proofs.Common.{◌≡◌, ◌^◌, ◌<◌}
 use Rattle.marks.specs.Marks.{count_of}
 use Rattle.engines.specs.Marked.{over_marks}
-use Rattle.engines.proofs.Marking.{without, over_less, over_turn, over_none}
 use Rattle.flood.specs.Flood.{hear_at}
 use Rattle.flood.proofs.flood.send.Given as goal
 

@@ -1,5 +1,4 @@
 use Rattle.flood.specs.Flood.{send_at}
-use Rattle.std.proofs.Common.{rules}
 use Rattle.flood.proofs.flood.send_at.Goals as goal
 
 pub returns : goal.returns

@@ -1,5 +1,4 @@
 use Rattle.flood.specs.Flood.{sent_after}
-use Rattle.std.proofs.Common.{rules}
 use Rattle.flood.proofs.flood.sent_after.Goals as goal
 
 pub returns : goal.returns

@@ -1,4 +1,4 @@
-use Rattle.std.proofs.Common.{rules, le-ltb, lt-ltb}
+use Rattle.std.proofs.Common.{le-ltb, lt-ltb}
 use Rattle.flood.specs.Flood.{flood_start}
 use Rattle.flood.proofs.flood.start_flood.Goals as goal
 

@@ -1,8 +1,6 @@
-use Rattle.std.proofs.Common.{◌^◌, ◌<◌, length, sym, refl, ◌∙◌, arith, rules}
-use Rattle.loops.specs.Runs.{runs}
-use Rattle.engines.specs.Rounds.{rows_in}
-use Rattle.engines.proofs.Rounds.{Counted, counted_turn, counted_stop, counted_none, counted_short}
-use Rattle.flood.specs.Flood.{is_over, flood_slot}
+use Rattle.std.proofs.Common.{◌^◌, ◌<◌, sym, refl, ◌∙◌, arith, rules}
+use Rattle.engines.proofs.Rounds.{counted_turn, counted_stop, counted_none, counted_short}
+use Rattle.flood.specs.Flood.{is_over}
 use Rattle.flood.specs.declared.flood.FloodRun.{FloodRun}
 use Rattle.flood.proofs.FloodShortage.{flood_short}
 use Rattle.flood.proofs.flood.survey.Goals as goal

@@ -1,10 +1,9 @@
-use Rattle.std.proofs.Common.{◌^◌, ◌<◌, length, sym, refl, ◌∙◌, arith, rules}
+use Rattle.std.proofs.Common.{length}
 use Rattle.loops.specs.Runs.{runs}
 use Rattle.engines.specs.Rounds.{rows_in}
-use Rattle.engines.proofs.Rounds.{Counted, counted_turn, counted_stop, counted_none, counted_short}
+use Rattle.engines.proofs.Rounds.{Counted}
 use Rattle.flood.specs.Flood.{is_over, flood_slot}
 use Rattle.flood.specs.declared.flood.FloodRun.{FloodRun}
-use Rattle.flood.proofs.FloodShortage.{flood_short}
 use Rattle.flood.proofs.flood.survey.Given as goal
 
 abbrev pub invariant-loop-left : goal.invariant-loop-left

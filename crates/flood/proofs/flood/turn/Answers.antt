@@ -1,6 +1,5 @@
 use Rattle.flood.proofs.Flooding.{next_listen, next_flood}
 use Rattle.flood.specs.Flood.{next_node}
-use Rattle.std.proofs.Common.{rules}
 use Rattle.flood.proofs.flood.turn.Goals as goal
 
 pub returns-in-Listen : goal.returns-in-Listen

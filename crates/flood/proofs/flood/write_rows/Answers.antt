@@ -1,7 +1,6 @@
-use Rattle.std.proofs.Common.{sym, refl, ◌∙◌, rules}
-use Rattle.engines.specs.Rounds.{placed}
-use Rattle.engines.proofs.Rounds.{Left, left_turn, left_stop, left_none, left_full, left_length, placed_length}
-use Rattle.flood.specs.Flood.{is_over, flood_slot, flood_rows}
+use Rattle.std.proofs.Common.{sym, refl, ◌∙◌}
+use Rattle.engines.proofs.Rounds.{left_turn, left_stop, left_none, left_full, left_length, placed_length}
+use Rattle.flood.specs.Flood.{is_over, flood_rows}
 use Rattle.flood.specs.declared.flood.FloodRun.{FloodRun}
 use Rattle.flood.proofs.flood.write_rows.Goals as goal
 

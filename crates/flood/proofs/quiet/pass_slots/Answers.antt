@@ -1,5 +1,4 @@
 use Rattle.flood.specs.Quiet.{quietened}
-use Rattle.std.proofs.Common.{rules}
 use Rattle.flood.proofs.quiet.pass_slots.Goals as goal
 
 pub returns : goal.returns

@@ -1,6 +1,4 @@
-use Rattle.std.proofs.Common.{ℕ, ◌-◌, ◌<◌, ◌≤◌, get_or, arith, rules}
-use Rattle.engines.specs.Nodes.{no_node}
-use Rattle.flood.specs.Quiet.{Alone}
+use Rattle.std.proofs.Common.{arith, rules}
 use Rattle.flood.proofs.Quieting.{alone_more}
 use Rattle.flood.proofs.quiet.quiet_for_all.Goals as goal
 

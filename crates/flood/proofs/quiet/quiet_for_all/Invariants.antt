@@ -1,7 +1,6 @@
-use Rattle.std.proofs.Common.{ℕ, ◌-◌, ◌<◌, ◌≤◌, get_or, arith, rules}
+use Rattle.std.proofs.Common.{ℕ, ◌-◌, ◌<◌, ◌≤◌, get_or}
 use Rattle.engines.specs.Nodes.{no_node}
 use Rattle.flood.specs.Quiet.{Alone}
-use Rattle.flood.proofs.Quieting.{alone_more}
 use Rattle.flood.proofs.quiet.quiet_for_all.Given as goal
 
 abbrev pub invariant-loop-i : goal.invariant-loop-i

@@ -1,5 +1,4 @@
-use Rattle.std.proofs.Common.{sym, ◌∙◌, arith, rules}
-use lib.ListN.{length-map}
+use Rattle.std.proofs.Common.{arith, rules}
 use Rattle.engines.specs.Stretch.{Small}
 use Rattle.flood.proofs.Quieting.{some_flood}
 use Rattle.flood.proofs.quiet.quiet_slots.Goals as goal

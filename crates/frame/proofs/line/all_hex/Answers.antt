@@ -1,10 +1,7 @@
-use mathlib.Core.Path.{◌≡◌, sym}
-use Prim.Native.Nat.{◌≤◌, ◌-◌}
+use mathlib.Core.Path.{sym}
 use native.Mathlib.Omega.{arith}
-use lib.ListN.{length}
 use Rattle.marks.specs.Sets.{all_none}
-use Rattle.frame.proofs.Digits.{hex_upto, hex_more, hex_all}
-use borrow.Author.Rules.{rules}
+use Rattle.frame.proofs.Digits.{hex_more, hex_all}
 use Rattle.frame.proofs.line.all_hex.Goals as goal
 
 pub loop-i-init : goal.loop-i-init

@@ -1,10 +1,7 @@
-use mathlib.Core.Path.{◌≡◌, sym}
+use mathlib.Core.Path.{◌≡◌}
 use Prim.Native.Nat.{◌≤◌, ◌-◌}
-use native.Mathlib.Omega.{arith}
 use lib.ListN.{length}
-use Rattle.marks.specs.Sets.{all_none}
-use Rattle.frame.proofs.Digits.{hex_upto, hex_more, hex_all}
-use borrow.Author.Rules.{rules}
+use Rattle.frame.proofs.Digits.{hex_upto}
 use Rattle.frame.proofs.line.all_hex.Given as goal
 
 abbrev pub invariant-loop-i : goal.invariant-loop-i

@@ -1,5 +1,4 @@
 use native.Mathlib.Omega.{arith}
-use borrow.Author.Rules.{rules}
 use Rattle.frame.proofs.Digits.{digit_low, digit_high, digit_under, digit_between, digit_over}
 use Rattle.frame.proofs.line.digit.Goals as goal
 

@@ -1,5 +1,4 @@
 use lib.ListN.{get_or-eq_default}
-use borrow.Author.Rules.{rules}
 use Rattle.frame.proofs.line.digit_at.Goals as goal
 
 pub returns : goal.returns

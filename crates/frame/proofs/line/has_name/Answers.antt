@@ -1,7 +1,5 @@
 use mathlib.Core.Path.{sym, ◌∙◌}
 use native.Mathlib.Omega.{arith}
-use borrow.Author.Tests.{not-true, not-false}
-use borrow.Author.Rules.{rules}
 use Rattle.frame.proofs.Frames.{name_none, name_short, name_bad, name_good}
 use Rattle.frame.proofs.line.has_name.Goals as goal
 

@@ -1,6 +1,4 @@
 use mathlib.Core.Path.{sym, ◌∙◌}
-use borrow.Author.Tests.{not-true, not-false}
-use borrow.Author.Rules.{rules}
 use Rattle.frame.proofs.Frames.{frame_long, frame_digit, frame_short, frame_kind, frame_good}
 use Rattle.frame.proofs.line.is_frame.Goals as goal
 

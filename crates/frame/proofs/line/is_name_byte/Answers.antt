@@ -1,5 +1,4 @@
 use borrow.Author.Tests.{lt-leb, le-leb}
-use borrow.Author.Rules.{rules}
 use Rattle.frame.specs.Lines.{name_byte}
 use Rattle.frame.proofs.line.is_name_byte.Goals as goal
 

@@ -1,12 +1,8 @@
-use mathlib.Core.Path.{◌≡◌, sym, ◌∙◌}
+use mathlib.Core.Path.{◌≡◌}
 use mathlib.Core.Bool.{true}
 use Prim.Native.Nat.{◌≤◌, ◌-◌}
-use native.Mathlib.Omega.{arith}
-use borrow.Author.Tests.{not-true, not-false}
-use borrow.Author.Rules.{rules}
 use Rattle.marks.specs.Marks.{all_of}
-use Rattle.marks.specs.Sets.{all_none, all_more, all_left, all_done}
-use Rattle.frame.specs.Lines.{name_byte, name_fits}
+use Rattle.frame.specs.Lines.{name_byte}
 use Rattle.frame.proofs.line.name_fits.Given as goal
 
 abbrev pub invariant-loop-k : goal.invariant-loop-k

@@ -1,5 +1,4 @@
 use native.Mathlib.Omega.{arith}
-use borrow.Author.Rules.{rules}
 use Rattle.frame.proofs.Digits.{number_lt}
 use Rattle.frame.specs.Lines.{name_length}
 use Rattle.frame.proofs.line.name_length.Goals as goal

@@ -1,6 +1,4 @@
 use mathlib.Core.Path.{sym, ◌∙◌}
-use borrow.Author.Tests.{not-true, not-false}
-use borrow.Author.Rules.{rules}
 use Rattle.frame.proofs.Frames.{frame_refused}
 use Rattle.frame.specs.Lines.{frame_of}
 use Rattle.frame.proofs.line.read_frame.Goals as goal

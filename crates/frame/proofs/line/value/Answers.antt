@@ -1,5 +1,4 @@
 use Rattle.frame.proofs.Digits.{value_is}
-use borrow.Author.Rules.{rules}
 use Rattle.frame.proofs.line.value.Goals as goal
 
 pub returns : goal.returns

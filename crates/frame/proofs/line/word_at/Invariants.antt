@@ -1,11 +1,6 @@
-use mathlib.Core.Path.{◌≡◌, ap, ◌∙◌}
-use Prim.Native.Nat.{◌+◌, ◌≤◌, ◌-◌}
-use native.Mathlib.Nat.{le_antisymm}
-use native.Mathlib.Omega.{arith}
-use lib.ListN.{get_or}
-use Rattle.frame.proofs.Digits.{number_room, number_none, number_more, digit_lt, hex_at}
+use mathlib.Core.Path.{◌≡◌}
+use Prim.Native.Nat.{◌≤◌, ◌-◌}
 use Rattle.frame.specs.Lines.{number_at}
-use borrow.Author.Rules.{rules}
 use Rattle.frame.proofs.line.word_at.Given as goal
 
 abbrev pub invariant-loop-k : goal.invariant-loop-k

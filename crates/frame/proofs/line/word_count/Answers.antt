@@ -1,4 +1,3 @@
-use borrow.Author.Rules.{rules}
 use Rattle.frame.proofs.Digits.{no_words}
 use Rattle.frame.specs.Lines.{word_count}
 use Rattle.frame.proofs.line.word_count.Goals as goal

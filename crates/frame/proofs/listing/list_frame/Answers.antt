@@ -1,7 +1,6 @@
 use Rattle.frame.proofs.Texts.{too_short, listed}
 use mathlib.Core.Logic.{inl, inr}
 use native.Mathlib.Omega.{arith}
-use borrow.Author.Rules.{rules}
 use Rattle.frame.proofs.listing.list_frame.Goals as goal
 
 pub returns-then-words-lt-WORDS : goal.returns-then-words-lt-WORDS

@@ -1,6 +1,5 @@
 use Rattle.frame.proofs.Playing.{kept, no_frame_lem, a_frame, words_left}
 use native.Mathlib.Omega.{arith}
-use borrow.Author.Rules.{rules}
 use Rattle.frame.proofs.listing.outcome_of.Goals as goal
 
 pub returns-then-f-ne0 : goal.returns-then-f-ne0

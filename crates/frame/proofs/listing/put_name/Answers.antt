@@ -1,12 +1,7 @@
-use Rattle.frame.specs.Listing.{name_of}
 use Rattle.frame.proofs.Texts.{name_start, name_length_lem, name_more, name_done}
 use Rattle.frame.proofs.Digits.{byte_lt}
-use Rattle.texts.specs.Put.{Put}
-use lib.ListN.{length}
 use native.Mathlib.Omega.{arith}
-use mathlib.Core.Path.{◌≡◌, refl, ◌∙◌}
-use Prim.Native.Nat.{◌≤◌, ◌-◌}
-use borrow.Author.Rules.{rules}
+use mathlib.Core.Path.{refl, ◌∙◌}
 use Rattle.frame.proofs.listing.put_name.Goals as goal
 
 pub loop-k-init : goal.loop-k-init

@@ -3,7 +3,6 @@ use Rattle.frame.proofs.Texts.{refused_room}
 use Rattle.texts.specs.Put.{put_then, room_next}
 use Rattle.texts.specs.Decimal.{decimal}
 use native.Mathlib.Omega.{arith}
-use borrow.Author.Rules.{rules}
 use Rattle.frame.proofs.listing.put_refused.Goals as goal
 
 pub put_decimal-requires : goal.put_decimal-requires

@@ -1,6 +1,5 @@
 use Rattle.frame.proofs.Texts.{blank_room, sent_room, sent_put}
 use native.Mathlib.Omega.{arith}
-use borrow.Author.Rules.{rules}
 use Rattle.frame.proofs.listing.put_sent.Goals as goal
 
 pub put_byte-p-requires : goal.put_byte-p-requires

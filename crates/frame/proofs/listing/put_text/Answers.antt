@@ -1,6 +1,5 @@
 use Rattle.frame.specs.Listing.{text_of}
 use borrow.Author.Tests.{eq-eqb, ne_eqb}
-use borrow.Author.Rules.{rules}
 use Rattle.frame.proofs.listing.put_text.Goals as goal
 
 pub returns-then-o-ne0 : goal.returns-then-o-ne0

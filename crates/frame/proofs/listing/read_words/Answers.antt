@@ -1,11 +1,7 @@
-use mathlib.Core.Path.{◌≡◌, refl}
-use Prim.Native.Nat.{◌≤◌, ◌-◌}
+use mathlib.Core.Path.{refl}
 use native.Mathlib.Omega.{arith}
-use lib.ListN.{length, length-set}
-use Rattle.loops.specs.Table.{tabulate}
-use Rattle.texts.specs.Put.{Put}
+use lib.ListN.{length-set}
 use Rattle.frame.proofs.Playing.{word_at, words_start, words_more, words_stored}
-use borrow.Author.Rules.{rules}
 use Rattle.frame.proofs.listing.read_words.Goals as goal
 
 pub loop-k-init : goal.loop-k-init

@@ -1,11 +1,9 @@
-use mathlib.Core.Path.{◌≡◌, refl}
+use mathlib.Core.Path.{◌≡◌}
 use Prim.Native.Nat.{◌≤◌, ◌-◌}
-use native.Mathlib.Omega.{arith}
-use lib.ListN.{length, length-set}
+use lib.ListN.{length}
 use Rattle.loops.specs.Table.{tabulate}
 use Rattle.texts.specs.Put.{Put}
-use Rattle.frame.proofs.Playing.{word_at, words_start, words_more, words_stored}
-use borrow.Author.Rules.{rules}
+use Rattle.frame.proofs.Playing.{word_at}
 use Rattle.frame.proofs.listing.read_words.Given as goal
 
 abbrev pub invariant-loop-k : goal.invariant-loop-k

@@ -1,4 +1,3 @@
-use borrow.Author.Rules.{rules}
 use Rattle.frame.specs.Play.{asked_of}
 use Rattle.frame.proofs.play.asked_of.Goals as goal
 

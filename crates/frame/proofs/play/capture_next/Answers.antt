@@ -1,5 +1,4 @@
 use borrow.Author.Tests.{eq-eqb, ne_eqb}
-use borrow.Author.Rules.{rules}
 use Rattle.frame.specs.Play.{capturing}
 use Rattle.frame.proofs.play.capture_next.Goals as goal
 

@@ -1,4 +1,3 @@
-use borrow.Author.Rules.{rules}
 use Rattle.frame.specs.Play.{capture_turn}
 use Rattle.frame.proofs.play.capture_turn.Goals as goal
 

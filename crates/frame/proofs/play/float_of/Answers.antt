@@ -1,6 +1,5 @@
 use mathlib.Core.Path.{sym, ◌∙◌}
 use Rattle.frame.proofs.Floats.{none_nan, nan_bits_lem, no_nan}
-use borrow.Author.Rules.{rules}
 use Rattle.frame.proofs.play.float_of.Goals as goal
 
 pub returns-then-is_nan : goal.returns-then-is_nan

@@ -1,4 +1,3 @@
-use borrow.Author.Rules.{rules}
 use Rattle.frame.proofs.play.new_ran.Goals as goal
 
 pub returns : goal.returns

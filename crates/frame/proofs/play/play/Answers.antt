@@ -1,5 +1,4 @@
 use borrow.Author.Tests.{eq-eqb, ne_eqb}
-use borrow.Author.Rules.{rules}
 use Rattle.frame.specs.Play.{play_of}
 use Rattle.frame.proofs.play.play.Goals as goal
 

@@ -1,8 +1,6 @@
-use mathlib.Core.Path.{◌≡◌}
-use Prim.Native.Nat.{◌≤◌, ◌-◌}
 use borrow.Author.Rules.{rules}
-use Rattle.loops.specs.Upto.{upto, upto_none, upto_turn, upto_all}
-use Rattle.frame.specs.Play.{capture_turn, play_capture}
+use Rattle.loops.specs.Upto.{upto_none, upto_turn, upto_all}
+use Rattle.frame.specs.Play.{play_capture}
 use Rattle.frame.proofs.play.play_capture.Goals as goal
 
 pub loop-k-init : goal.loop-k-init

@@ -1,8 +1,7 @@
 use mathlib.Core.Path.{◌≡◌}
 use Prim.Native.Nat.{◌≤◌, ◌-◌}
-use borrow.Author.Rules.{rules}
-use Rattle.loops.specs.Upto.{upto, upto_none, upto_turn, upto_all}
-use Rattle.frame.specs.Play.{capture_turn, play_capture}
+use Rattle.loops.specs.Upto.{upto}
+use Rattle.frame.specs.Play.{capture_turn}
 use Rattle.frame.proofs.play.play_capture.Given as goal
 
 abbrev pub invariant-loop-k : goal.invariant-loop-k

@@ -1,5 +1,4 @@
 use mathlib.Core.Path.{◌∙◌}
-use borrow.Author.Rules.{rules}
 use Rattle.frame.proofs.Playing.{few_positions, many_positions, no_links, with_links}
 use Rattle.frame.proofs.play.play_frame.Goals as goal
 

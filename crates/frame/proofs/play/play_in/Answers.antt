@@ -1,6 +1,5 @@
 use mathlib.Core.Path.{sym, ◌∙◌}
 use borrow.Author.Tests.{eq-eqb, ne_eqb}
-use borrow.Author.Rules.{rules}
 use Rattle.room.proofs.Calling.{opened_size}
 use Rattle.frame.specs.Play.{played_in}
 use Rattle.frame.proofs.play.play_in.Goals as goal

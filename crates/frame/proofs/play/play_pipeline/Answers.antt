@@ -1,10 +1,9 @@
 use mathlib.Core.Path.{◌≡◌, refl, sym, ◌∙◌}
-use borrow.Author.Rules.{rules}
-use Rattle.loops.specs.Runs.{runs, runs_none, runs_stop, runs_turn}
+use Rattle.loops.specs.Runs.{runs_none, runs_stop, runs_turn}
 use mathlib.Core.Bool.{not, ◌||◌}
 use lib.Dec.{eqb}
 use Rattle.pipeline.specs.declared.pipeline.PipelineAnswer.{PipelineAnswer}
-use Rattle.frame.specs.Play.{is_done, pipeline_turn, play_pipeline}
+use Rattle.frame.specs.Play.{is_done, play_pipeline}
 use Rattle.frame.proofs.play.play_pipeline.Goals as goal
 
 done_is : (s : PipelineAnswer) → is_done s ≡ (not (eqb s.refusal 0) || s.part.stop)

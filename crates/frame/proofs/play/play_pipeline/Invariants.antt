@@ -1,10 +1,6 @@
-use mathlib.Core.Path.{◌≡◌, refl, sym, ◌∙◌}
-use borrow.Author.Rules.{rules}
-use Rattle.loops.specs.Runs.{runs, runs_none, runs_stop, runs_turn}
-use mathlib.Core.Bool.{not, ◌||◌}
-use lib.Dec.{eqb}
-use Rattle.pipeline.specs.declared.pipeline.PipelineAnswer.{PipelineAnswer}
-use Rattle.frame.specs.Play.{is_done, pipeline_turn, play_pipeline}
+use mathlib.Core.Path.{◌≡◌}
+use Rattle.loops.specs.Runs.{runs}
+use Rattle.frame.specs.Play.{is_done, pipeline_turn}
 use Rattle.frame.proofs.play.play_pipeline.Given as goal
 
 abbrev pub invariant-loop-left : goal.invariant-loop-left

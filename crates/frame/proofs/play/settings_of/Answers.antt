@@ -1,5 +1,4 @@
 use Rattle.frame.specs.Play.{settings_of}
-use borrow.Author.Rules.{rules}
 use Rattle.frame.proofs.play.settings_of.Goals as goal
 
 pub returns : goal.returns

@@ -1,4 +1,4 @@
-use Rattle.std.proofs.Common.{sym, ◌∙◌, arith}
+use Rattle.std.proofs.Common.{sym, arith}
 use Rattle.texts.specs.Put.{put_as, put_more}
 use Rattle.texts.specs.Decimal.{decimal_small, decimal_step, length_small, length_step}
 use Rattle.frame.proofs.put.+put_decimal.Goals as goal

@@ -1,10 +1,8 @@
 use native.Mathlib.Numerals.{add-one}
 use lib.Seq.{length-take-le, take-suc, take_all}
-use mathlib.Core.Path.{◌≡◌, refl, sym, ◌∙◌}
-use Prim.Native.Nat.{◌≤◌, ◌-◌}
+use mathlib.Core.Path.{refl, sym, ◌∙◌}
 use native.Mathlib.Omega.{arith}
-use lib.ListN.{length, take}
-use Rattle.texts.specs.Put.{Put, put_none, put_as, put_more}
+use Rattle.texts.specs.Put.{put_none, put_as, put_more}
 use Rattle.frame.proofs.put.put_all.Goals as goal
 
 pub loop-j-init : goal.loop-j-init
@@ -23,13 +21,12 @@ pub loop-j-smaller : goal.loop-j-smaller
 loop-j-smaller c = omega arith
 
 pub loop-j-preserved : goal.loop-j-preserved
-loop-j-preserved c =
-    (
-      omega arith,
-      c.put_byte-o.auto.buf ∙ c.loop-j.invariant.1,
-      put_as (sym (rw (add-one) (take-suc c.args.src.now c.loop-j.j 0 (omega arith))))
-          (put_more (omega (arith, c.requires)) c.loop-j.invariant.2 c.put_byte-o.ensures),
-    )
+loop-j-preserved c = (
+  omega arith,
+  c.put_byte-o.auto.buf ∙ c.loop-j.invariant.1,
+  put_as (sym (rw (add-one) (take-suc c.args.src.now c.loop-j.j 0 (omega arith))))
+      (put_more (omega (arith, c.requires)) c.loop-j.invariant.2 c.put_byte-o.ensures),
+)
 
 pub shape_of-buf : goal.shape_of-buf
 shape_of-buf c = c.loop-j.invariant.1

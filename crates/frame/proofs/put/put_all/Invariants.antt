@@ -1,10 +1,7 @@
-use native.Mathlib.Numerals.{add-one}
-use lib.Seq.{length-take-le, take-suc, take_all}
-use mathlib.Core.Path.{◌≡◌, refl, sym, ◌∙◌}
+use mathlib.Core.Path.{◌≡◌}
 use Prim.Native.Nat.{◌≤◌, ◌-◌}
-use native.Mathlib.Omega.{arith}
 use lib.ListN.{length, take}
-use Rattle.texts.specs.Put.{Put, put_none, put_as, put_more}
+use Rattle.texts.specs.Put.{Put}
 use Rattle.frame.proofs.put.put_all.Given as goal
 
 abbrev pub invariant-loop-j : goal.invariant-loop-j

@@ -1,6 +1,5 @@
 use mathlib.Core.Path.{◌∙◌}
 use native.Mathlib.Omega.{arith}
-use borrow.Author.Rules.{rules}
 use Rattle.graph.proofs.Entries.{first_here, first_next, room_short, room_ok, unless_refused, unless_done}
 use Rattle.graph.proofs.console.graph_build.Goals as goal
 

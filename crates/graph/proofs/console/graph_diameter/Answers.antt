@@ -1,5 +1,4 @@
 use mathlib.Core.Path.{refl, sym}
-use borrow.Author.Rules.{rules}
 use Rattle.graph.proofs.Entries.{first_here, first_next, unless_refused, unless_done}
 use Rattle.graph.proofs.console.graph_diameter.Goals as goal
 

@@ -1,11 +1,7 @@
-use mathlib.Core.Path.{◌≡◌, refl, ap, ◌∙◌}
-use mathlib.Core.List.{List}
-use Prim.Native.Nat.{ℕ, ◌≤◌, ◌-◌}
-use native.Mathlib.Omega.{arith}
-use lib.ListN.{length, take, get_or, set}
-use lib.Seq.{sets, length-sets, take_all}
-use borrow.Author.Rules.{rules}
-use Rattle.graph.proofs.Entries.{put_turn}
+use mathlib.Core.Path.{◌≡◌}
+use Prim.Native.Nat.{◌≤◌, ◌-◌}
+use lib.ListN.{take}
+use lib.Seq.{sets}
 use Rattle.graph.proofs.console.put_all.Given as goal
 
 abbrev pub invariant-loop-i : goal.invariant-loop-i

@@ -1,4 +1,3 @@
-use borrow.Author.Rules.{rules}
 use Rattle.graph.specs.Links.{ahead_of, mesh_rule, next_rule}
 use Rattle.graph.proofs.network.ahead.Goals as goal
 

@@ -1,6 +1,5 @@
 use mathlib.Core.Path.{◌∙◌}
 use native.Mathlib.Omega.{arith}
-use borrow.Author.Rules.{rules}
 use Rattle.graph.proofs.Rules.{built_none, built_many, built_by}
 use Rattle.graph.proofs.network.build.Goals as goal
 

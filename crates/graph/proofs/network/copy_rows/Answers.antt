@@ -1,10 +1,10 @@
 use mathlib.Core.List.{List}
-use mathlib.Core.Path.{◌≡◌, refl, ap}
-use Prim.Native.Nat.{ℕ, ◌≤◌, ◌-◌}
+use mathlib.Core.Path.{refl, ap}
+use Prim.Native.Nat.{ℕ}
 use native.Mathlib.Omega.{arith}
-use lib.ListN.{length, get_or}
+use lib.ListN.{length}
 use borrow.Author.Rules.{rules}
-use Rattle.loops.specs.Table.{filled, filled_none, filled_turn, filled_all}
+use Rattle.loops.specs.Table.{filled_none, filled_turn, filled_all}
 use Rattle.graph.proofs.network.copy_rows.Goals as goal
 
 pub loop-i-init : goal.loop-i-init

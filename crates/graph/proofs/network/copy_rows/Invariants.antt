@@ -1,10 +1,7 @@
-use mathlib.Core.List.{List}
-use mathlib.Core.Path.{◌≡◌, refl, ap}
-use Prim.Native.Nat.{ℕ, ◌≤◌, ◌-◌}
-use native.Mathlib.Omega.{arith}
+use mathlib.Core.Path.{◌≡◌}
+use Prim.Native.Nat.{◌≤◌, ◌-◌}
 use lib.ListN.{length, get_or}
-use borrow.Author.Rules.{rules}
-use Rattle.loops.specs.Table.{filled, filled_none, filled_turn, filled_all}
+use Rattle.loops.specs.Table.{filled}
 use Rattle.graph.proofs.network.copy_rows.Given as goal
 
 abbrev pub invariant-loop-i : goal.invariant-loop-i

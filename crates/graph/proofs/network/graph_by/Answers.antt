@@ -1,11 +1,6 @@
-use mathlib.Core.Path.{◌≡◌}
-use Prim.Native.Nat.{◌≤◌, ◌-◌}
 use native.Mathlib.Omega.{arith}
-use borrow.Author.Rules.{rules}
-use Rattle.loops.specs.Table.{filled_all, filled, filled_none, filled_turn}
-use Rattle.marks.specs.Marks.{marks}
+use Rattle.loops.specs.Table.{filled_all, filled_none, filled_turn}
 use Rattle.graph.proofs.Rules.{graph_filled}
-use Rattle.graph.specs.Links.{link_of}
 use Rattle.graph.proofs.network.graph_by.Goals as goal
 
 pub loop-i-init : goal.loop-i-init

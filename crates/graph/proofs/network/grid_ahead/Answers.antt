@@ -1,6 +1,4 @@
 use mathlib.Core.Path.{sym, ◌∙◌}
-use borrow.Author.Tests.{not-true, not-false}
-use borrow.Author.Rules.{rules}
 use Rattle.graph.proofs.Rules.{grid_below, grid_zero, grid_apart, grid_row}
 use Rattle.graph.proofs.network.grid_ahead.Goals as goal
 

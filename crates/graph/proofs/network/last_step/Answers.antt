@@ -1,5 +1,4 @@
 use borrow.Author.Tests.{eq-eqb, ne_eqb}
-use borrow.Author.Rules.{rules}
 use Rattle.graph.proofs.network.last_step.Goals as goal
 
 pub returns-then-front-eq0 : goal.returns-then-front-eq0

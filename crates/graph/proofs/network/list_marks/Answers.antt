@@ -1,8 +1,6 @@
-use mathlib.Core.Path.{ap, ◌∙◌, ◌≡◌}
-use Prim.Native.Nat.{◌≤◌, ◌-◌}
+use mathlib.Core.Path.{ap, ◌∙◌}
 use native.Mathlib.Nat.{le_antisymm}
 use native.Mathlib.Omega.{arith}
-use borrow.Author.Rules.{rules}
 use Rattle.graph.proofs.Rules.{list_none, list_room, list_turn}
 use Rattle.graph.specs.Links.{list_of}
 use Rattle.graph.proofs.network.list_marks.Goals as goal

@@ -1,9 +1,5 @@
-use mathlib.Core.Path.{ap, ◌∙◌, ◌≡◌}
+use mathlib.Core.Path.{◌≡◌}
 use Prim.Native.Nat.{◌≤◌, ◌-◌}
-use native.Mathlib.Nat.{le_antisymm}
-use native.Mathlib.Omega.{arith}
-use borrow.Author.Rules.{rules}
-use Rattle.graph.proofs.Rules.{list_none, list_room, list_turn}
 use Rattle.graph.specs.Links.{list_of}
 use Rattle.graph.proofs.network.list_marks.Given as goal
 

@@ -1,8 +1,7 @@
-use mathlib.Core.Path.{◌≡◌, ap, ◌∙◌}
-use Prim.Native.Nat.{◌≤◌, ◌-◌, max}
+use mathlib.Core.Path.{ap, ◌∙◌}
+use Prim.Native.Nat.{max}
 use native.Mathlib.Omega.{arith}
-use borrow.Author.Rules.{rules}
-use Rattle.loops.specs.Upto.{upto, upto_none, upto_turn, upto_all}
+use Rattle.loops.specs.Upto.{upto_none, upto_turn, upto_all}
 use Rattle.graph.specs.declared.network.Wave.{Wave}
 use Rattle.graph.specs.Paths.{farthest, diameter_of}
 use Rattle.graph.proofs.Spreads.{going}

@@ -1,11 +1,7 @@
-use mathlib.Core.Path.{◌≡◌, ap, ◌∙◌}
+use mathlib.Core.Path.{◌≡◌}
 use Prim.Native.Nat.{◌≤◌, ◌-◌, max}
-use native.Mathlib.Omega.{arith}
-use borrow.Author.Rules.{rules}
-use Rattle.loops.specs.Upto.{upto, upto_none, upto_turn, upto_all}
-use Rattle.graph.specs.declared.network.Wave.{Wave}
-use Rattle.graph.specs.Paths.{farthest, diameter_of}
-use Rattle.graph.proofs.Spreads.{going}
+use Rattle.loops.specs.Upto.{upto}
+use Rattle.graph.specs.Paths.{farthest}
 use Rattle.graph.proofs.network.longest_path.Given as goal
 
 abbrev pub invariant-loop-i : goal.invariant-loop-i

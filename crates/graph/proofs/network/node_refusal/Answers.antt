@@ -1,5 +1,4 @@
 use mathlib.Core.Path.{sym, ◌∙◌}
-use borrow.Author.Rules.{rules}
 use Rattle.graph.proofs.Rules.{node_refused, node_far, node_ok}
 use Rattle.graph.proofs.network.node_refusal.Goals as goal
 

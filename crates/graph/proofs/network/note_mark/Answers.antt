@@ -1,6 +1,4 @@
 use mathlib.Core.Path.{sym, ◌∙◌}
-use borrow.Author.Tests.{not-true, not-false}
-use borrow.Author.Rules.{rules}
 use Rattle.graph.proofs.network.note_mark.Goals as goal
 
 pub returns-then-not-is_marked : goal.returns-then-not-is_marked

@@ -1,5 +1,4 @@
 use mathlib.Core.Path.{sym, ◌∙◌}
-use borrow.Author.Rules.{rules}
 use Rattle.graph.proofs.Rules.{pair_first, pair_second}
 use Rattle.graph.proofs.network.pair_refusal.Goals as goal
 

@@ -1,5 +1,4 @@
 use mathlib.Core.Path.{◌∙◌}
-use borrow.Author.Rules.{rules}
 use Rattle.graph.proofs.Rules.{plain_refused, plain_built}
 use Rattle.graph.proofs.network.plain.Goals as goal
 

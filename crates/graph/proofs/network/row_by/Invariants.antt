@@ -1,10 +1,7 @@
 use mathlib.Core.Path.{◌≡◌}
 use mathlib.Core.Bool.{◌&&◌}
 use Prim.Native.Nat.{ℕ, ◌≤◌, ◌<◌, ◌-◌, ◌^◌}
-use native.Mathlib.Omega.{arith}
 use lib.Dec.{ltb}
-use borrow.Author.Rules.{rules}
-use Rattle.marks.specs.Sets.{grown_all, grown_none, grown_turn}
 use Rattle.marks.specs.Marks.{has}
 use Rattle.graph.specs.Links.{link_of}
 use Rattle.graph.proofs.network.row_by.Given as goal

@@ -1,7 +1,6 @@
 use mathlib.Core.Path.{ap, ◌∙◌}
 use mathlib.Core.Bool.{Bool, not, ◌&&◌}
 use native.Mathlib.Omega.{arith}
-use borrow.Author.Rules.{rules}
 use Rattle.marks.specs.Marks.{has}
 use Rattle.graph.proofs.Rules.{inside_yes, inside_no}
 use Rattle.graph.proofs.network.row_inside.Goals as goal

@@ -1,12 +1,7 @@
-use mathlib.Core.Path.{◌≡◌, sym, ◌∙◌}
-use mathlib.Core.Bool.{true}
-use Prim.Native.Nat.{◌≤◌, ◌-◌}
+use mathlib.Core.Path.{sym, ◌∙◌}
 use native.Mathlib.Omega.{arith}
 use lib.ListN.{get_or}
-use borrow.Author.Tests.{not-true, not-false}
-use borrow.Author.Rules.{rules}
 use Rattle.marks.specs.Sets.{all_none, all_more, all_left, all_done}
-use Rattle.marks.specs.Marks.{all_of}
 use Rattle.graph.specs.Links.{inside}
 use Rattle.graph.proofs.network.rows_inside.Goals as goal
 

@@ -1,12 +1,7 @@
-use mathlib.Core.Path.{◌≡◌, ◌∙◌}
-use mathlib.Core.Bool.{◌||◌}
-use Prim.Native.Nat.{ℕ, ◌<◌, ◌^◌}
+use mathlib.Core.Path.{◌∙◌}
 use native.Mathlib.Omega.{arith}
-use borrow.Author.Rules.{rules}
 use Rattle.marks.specs.Laws.{has_none}
 use Rattle.marks.specs.Sets.{lowest_lt}
-use Rattle.marks.specs.Marks.{has, count_of}
-use Rattle.graph.specs.Waves.{leads}
 use Rattle.graph.proofs.Spreads.{spread_done, spread_turn, spread_less}
 use Rattle.graph.proofs.network.spread.Goals as goal
 

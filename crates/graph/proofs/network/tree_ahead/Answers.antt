@@ -1,5 +1,4 @@
 use native.Mathlib.Omega.{arith}
-use borrow.Author.Rules.{rules}
 use Rattle.graph.proofs.Rules.{tree_none, tree_root, tree_child}
 use Rattle.graph.proofs.network.tree_ahead.Goals as goal
 

@@ -1,15 +1,6 @@
-use mathlib.Core.Path.{◌≡◌, subst, sym, ap, ◌∙◌}
-use mathlib.Core.Bool.{Bool, not, ◌&&◌}
-use Prim.Native.Nat.{ℕ, ◌+◌, ◌≤◌, ◌<◌, ◌-◌}
-use native.Mathlib.Nat.{le_antisymm}
-use native.Mathlib.Numerals.{add-one}
-use native.Mathlib.Omega.{arith}
-use lib.Dec.{eqb}
-use borrow.Author.Rules.{rules}
-use Rattle.graph.specs.declared.network.NetworkGraph.{NetworkGraph}
-use Rattle.graph.specs.declared.network.Wave.{Wave}
-use Rattle.graph.specs.Waves.{step_of, wave_of}
-use Rattle.graph.proofs.Spreads.{start_is, wave_over}
+use mathlib.Core.Path.{◌≡◌}
+use Prim.Native.Nat.{◌≤◌, ◌-◌}
+use Rattle.graph.specs.Waves.{wave_of}
 use Rattle.graph.proofs.network.wave_from.Given as goal
 
 abbrev pub invariant-loop-k : goal.invariant-loop-k

@@ -1,7 +1,6 @@
 use mathlib.Core.Path.{ap, ◌∙◌}
 use mathlib.Core.Bool.{Bool, ◌&&◌}
 use native.Mathlib.Omega.{arith}
-use borrow.Author.Rules.{rules}
 use Rattle.marks.specs.Marks.{has}
 use Rattle.marks.specs.Sets.{marks_whole}
 use Rattle.graph.specs.Waves.{moved_to, step_of}

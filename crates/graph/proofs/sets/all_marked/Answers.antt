@@ -1,7 +1,6 @@
 use mathlib.Core.Path.{sym, ap, ◌∙◌}
 use mathlib.Core.Bool.{Bool, not, ◌&&◌}
 use native.Mathlib.Omega.{arith}
-use borrow.Author.Rules.{rules}
 use Rattle.marks.specs.Marks.{has}
 use Rattle.marks.specs.Sets.{all_there, all_short, all_beyond}
 use Rattle.graph.proofs.sets.all_marked.Goals as goal

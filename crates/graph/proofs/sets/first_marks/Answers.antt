@@ -1,6 +1,5 @@
 use native.Mathlib.Omega.{arith}
 use lib.Pow.{pow_pos}
-use borrow.Author.Rules.{rules}
 use Rattle.marks.specs.Sets.{below_all, below_few}
 use Rattle.marks.specs.Laws.{one_shl}
 use Rattle.graph.proofs.sets.first_marks.Goals as goal

@@ -1,6 +1,5 @@
 use mathlib.Core.Path.{sym}
 use native.Mathlib.Omega.{arith}
-use borrow.Author.Rules.{rules}
 use Rattle.marks.specs.Laws.{has_out}
 use Rattle.graph.proofs.sets.is_marked.Goals as goal
 

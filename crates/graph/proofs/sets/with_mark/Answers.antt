@@ -1,4 +1,3 @@
-use borrow.Author.Rules.{rules}
 use Rattle.marks.specs.Sets.{with_far, with_near}
 use Rattle.graph.proofs.sets.with_mark.Goals as goal
 

@@ -1,5 +1,4 @@
 use native.Mathlib.Omega.{arith}
-use borrow.Author.Rules.{rules}
 use Rattle.marks.specs.Sets.{without_far, without_near}
 use Rattle.graph.proofs.sets.without_mark.Goals as goal
 

@@ -1,5 +1,4 @@
 use Rattle.texts.specs.Put.{put_byte}
-use borrow.Author.Rules.{rules}
 use Rattle.lines.proofs.feed.end_line.Goals as goal
 
 pub returns : goal.returns

@@ -1,6 +1,5 @@
 use mathlib.Core.Logic.{inl, inr}
 use Rattle.lines.proofs.Feeds.{fed_refused}
-use borrow.Author.Rules.{rules}
 use Rattle.lines.proofs.feed.feed.Goals as goal
 
 pub returns-then-text-n : goal.returns-then-text-n

@@ -1,7 +1,5 @@
-use Prim.Native.Nat.{◌-◌}
-use lib.ListN.{length}
 use native.Mathlib.Omega.{arith}
-use Rattle.lines.proofs.Feeds.{Going, going_starts, loop_left, no_end, no_room, next_line}
+use Rattle.lines.proofs.Feeds.{going_starts, loop_left, no_end, no_room, next_line}
 use borrow.Author.Rules.{rules}
 use Rattle.lines.proofs.feed.feed_lines.Goals as goal
 

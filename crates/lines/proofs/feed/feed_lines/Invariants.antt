@@ -1,8 +1,6 @@
 use Prim.Native.Nat.{◌-◌}
 use lib.ListN.{length}
-use native.Mathlib.Omega.{arith}
-use Rattle.lines.proofs.Feeds.{Going, going_starts, loop_left, no_end, no_room, next_line}
-use borrow.Author.Rules.{rules}
+use Rattle.lines.proofs.Feeds.{Going}
 use Rattle.lines.proofs.feed.feed_lines.Given as goal
 
 abbrev pub invariant-loop-at : goal.invariant-loop-at

@@ -1,6 +1,5 @@
 use mathlib.Core.Logic.{inl, inr}
 use Rattle.lines.proofs.Answers.{end_refused, end_listed}
-use borrow.Author.Rules.{rules}
 use Rattle.lines.proofs.feed.finish.Goals as goal
 
 pub returns-then-words-lt-WORDS : goal.returns-then-words-lt-WORDS

@@ -1,5 +1,4 @@
 use Rattle.lines.proofs.Moves.{keep_none, keep_count, keep_stays, keep_moved}
-use borrow.Author.Rules.{rules}
 use Rattle.lines.proofs.feed.keep.Goals as goal
 
 pub returns-then-text-from : goal.returns-then-text-from

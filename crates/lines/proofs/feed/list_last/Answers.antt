@@ -1,6 +1,5 @@
 use native.Mathlib.Omega.{arith}
 use Rattle.lines.proofs.Answers.{last_none, last_one}
-use borrow.Author.Rules.{rules}
 use Rattle.lines.proofs.feed.list_last.Goals as goal
 
 pub returns-then-line-eq0 : goal.returns-then-line-eq0

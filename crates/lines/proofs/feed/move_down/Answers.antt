@@ -1,10 +1,7 @@
-use mathlib.Core.Path.{◌≡◌, refl}
-use Prim.Native.Nat.{◌≤◌, ◌-◌}
+use mathlib.Core.Path.{refl}
 use native.Mathlib.Omega.{arith}
-use lib.ListN.{length, length-set}
-use Rattle.texts.specs.Put.{Put}
-use Rattle.lines.proofs.Moves.{moved, move_start, move_more, move_done}
-use borrow.Author.Rules.{rules}
+use lib.ListN.{length-set}
+use Rattle.lines.proofs.Moves.{move_start, move_more, move_done}
 use Rattle.lines.proofs.feed.move_down.Goals as goal
 
 pub loop-k-init : goal.loop-k-init

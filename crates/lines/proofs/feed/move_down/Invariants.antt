@@ -1,10 +1,8 @@
-use mathlib.Core.Path.{◌≡◌, refl}
+use mathlib.Core.Path.{◌≡◌}
 use Prim.Native.Nat.{◌≤◌, ◌-◌}
-use native.Mathlib.Omega.{arith}
-use lib.ListN.{length, length-set}
+use lib.ListN.{length}
 use Rattle.texts.specs.Put.{Put}
-use Rattle.lines.proofs.Moves.{moved, move_start, move_more, move_done}
-use borrow.Author.Rules.{rules}
+use Rattle.lines.proofs.Moves.{moved}
 use Rattle.lines.proofs.feed.move_down.Given as goal
 
 abbrev pub invariant-loop-k : goal.invariant-loop-k

@@ -1,6 +1,5 @@
 use native.Mathlib.Omega.{arith}
 use Rattle.lines.proofs.Answers.{line_put, line_words}
-use borrow.Author.Rules.{rules}
 use Rattle.lines.proofs.feed.put_line.Goals as goal
 
 pub returns : goal.returns

@@ -1,10 +1,7 @@
 use mathlib.Core.Bool.{true}
 use mathlib.Core.Path.{◌≡◌}
 use Prim.Native.Nat.{◌≤◌, ◌-◌}
-use native.Mathlib.Omega.{arith}
 use Rattle.lines.specs.Ends.{Unbroken}
-use Rattle.lines.proofs.Ends.{unbroken_none, unbroken_noted, unbroken_all}
-use borrow.Author.Rules.{rules}
 use Rattle.lines.proofs.search.is_unbroken.Given as goal
 
 abbrev pub invariant-loop-i : goal.invariant-loop-i

@@ -1,9 +1,5 @@
-use Prim.Native.Nat.{◌≤◌, ◌-◌}
-use lib.ListN.{length}
 use native.Mathlib.Omega.{arith}
-use Rattle.lines.specs.Ends.{Unbroken}
 use Rattle.lines.proofs.Ends.{unbroken_more, found, none_found}
-use borrow.Author.Rules.{rules}
 use Rattle.lines.proofs.search.line_end.Goals as goal
 
 pub loop-i-init : goal.loop-i-init

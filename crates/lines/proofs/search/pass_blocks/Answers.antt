@@ -1,10 +1,5 @@
-use Prim.Native.Nat.{◌≤◌, ◌-◌}
 use native.Mathlib.Omega.{arith}
-use lib.ListN.{length}
-use Rattle.lines.specs.Ends.{Unbroken}
 use Rattle.lines.proofs.Ends.{unbroken_none, unbroken_on}
-use borrow.Author.Rules.{rules}
-use borrow.Author.Tests.{not-false}
 use Rattle.lines.proofs.search.pass_blocks.Goals as goal
 
 pub loop-i-init : goal.loop-i-init

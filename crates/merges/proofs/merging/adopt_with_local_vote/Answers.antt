@@ -1,5 +1,4 @@
 use Rattle.merges.proofs.Slips.{adopted_by}
-use Rattle.std.proofs.Common.{rules}
 use Rattle.merges.proofs.merging.adopt_with_local_vote.Goals as goal
 
 pub returns : goal.returns

@@ -1,8 +1,6 @@
-use Rattle.std.proofs.Common.{◌≡◌, ℕ, ◌-◌, ◌≤◌, true, eqb, get_or, sym, ap, ◌∙◌, arith, rules, lt-ltb, eq-eqb, ne_eqb, le-leb}
-use borrow.Author.Tests.{lt-leb}
+use Rattle.std.proofs.Common.{◌≡◌, ◌-◌, ◌≤◌, true, eqb, get_or}
 use Rattle.marks.specs.Marks.{all_of}
-use Rattle.marks.specs.Sets.{all_none, all_more, all_left, all_done}
-use Rattle.merges.specs.Merging.{standing_of, no_payload, all_hold}
+use Rattle.merges.specs.Merging.{standing_of, no_payload}
 use Rattle.merges.proofs.merging.all_stand.Given as goal
 
 abbrev pub invariant-loop-i : goal.invariant-loop-i

@@ -1,8 +1,7 @@
-use Rattle.std.proofs.Common.{◌≡◌, ℕ, ◌-◌, ◌≤◌, false, eqb, get_or, sym, ap, ◌∙◌, arith, rules, eq-eqb, ne_eqb, le-leb}
+use Rattle.std.proofs.Common.{ℕ, eqb, sym, ap, ◌∙◌, arith, rules, eq-eqb, ne_eqb, le-leb}
 use borrow.Author.Tests.{lt-leb}
-use Rattle.marks.specs.Marks.{any_of}
 use Rattle.marks.specs.Sets.{any_none, any_more, any_at, any_done}
-use Rattle.merges.specs.Merging.{standing_of, no_payload, any_holds}
+use Rattle.merges.specs.Merging.{any_holds}
 use Rattle.merges.proofs.merging.any_stands.Goals as goal
 
 pub returns-then-n-gt-POSITIONS : goal.returns-then-n-gt-POSITIONS

@@ -1,4 +1,4 @@
-use Rattle.std.proofs.Common.{◌∙◌, rules}
+use Rattle.std.proofs.Common.{◌∙◌}
 use Rattle.merges.specs.Merging.{ensure_of}
 use Rattle.merges.proofs.merging.ensure_bitmap_len.Goals as goal
 

@@ -1,4 +1,4 @@
-use Rattle.std.proofs.Common.{◌∙◌, rules}
+use Rattle.std.proofs.Common.{◌∙◌}
 use Rattle.merges.specs.Merging.{decided_of}
 use Rattle.merges.proofs.merging.escalate_to_commit.Goals as goal
 

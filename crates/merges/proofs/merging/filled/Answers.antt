@@ -1,5 +1,4 @@
 use Rattle.merges.specs.Merging.{filled_of}
-use Rattle.std.proofs.Common.{rules}
 use Rattle.merges.proofs.merging.filled.Goals as goal
 
 pub returns : goal.returns

@@ -1,4 +1,4 @@
-use Rattle.std.proofs.Common.{arith, rules}
+use Rattle.std.proofs.Common.{arith}
 use Rattle.merges.proofs.Bitmaps.{first_is}
 use Rattle.merges.proofs.merging.first_of.Goals as goal
 

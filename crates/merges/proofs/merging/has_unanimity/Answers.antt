@@ -1,4 +1,4 @@
-use Rattle.std.proofs.Common.{rules, le-leb}
+use Rattle.std.proofs.Common.{le-leb}
 use borrow.Author.Tests.{lt-leb}
 use Rattle.merges.specs.Merging.{unanimous_of}
 use Rattle.merges.proofs.merging.has_unanimity.Goals as goal

@@ -1,4 +1,4 @@
-use Rattle.std.proofs.Common.{sym, refl, ap, rules}
+use Rattle.std.proofs.Common.{sym, refl, ap}
 use Rattle.merges.specs.Merging.{new_info, heard_of}
 use Rattle.merges.proofs.merging.hear.Goals as goal
 

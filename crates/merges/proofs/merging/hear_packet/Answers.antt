@@ -1,4 +1,4 @@
-use Rattle.std.proofs.Common.{sym, refl, ap, ◌∙◌, rules, le-ltb, lt-ltb}
+use Rattle.std.proofs.Common.{sym, refl, ap, ◌∙◌, le-ltb, lt-ltb}
 use Rattle.merges.specs.Merging.{new_info, heard_of}
 use Rattle.merges.proofs.Slips.{heard_same}
 use Rattle.merges.proofs.merging.hear_packet.Goals as goal

@@ -1,4 +1,4 @@
-use Rattle.std.proofs.Common.{ap, ◌∙◌, rules}
+use Rattle.std.proofs.Common.{ap, ◌∙◌}
 use Rattle.merges.specs.Merging.{adopted_of, proposal_of}
 use Rattle.merges.proofs.merging.init_proposal.Goals as goal
 

@@ -1,4 +1,4 @@
-use Rattle.std.proofs.Common.{arith, rules}
+use Rattle.std.proofs.Common.{arith}
 use Rattle.merges.specs.Merging.{join_news}
 use Rattle.merges.proofs.Bitmaps.{news_is}
 use Rattle.merges.proofs.merging.join_is_news.Goals as goal

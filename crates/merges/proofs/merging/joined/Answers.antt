@@ -1,6 +1,5 @@
 use Rattle.merges.specs.Merging.{join_of}
 use Rattle.merges.proofs.Bitmaps.{joined_is}
-use Rattle.std.proofs.Common.{rules}
 use Rattle.merges.proofs.merging.joined.Goals as goal
 
 pub returns : goal.returns

@@ -1,6 +1,5 @@
 use Rattle.merges.specs.Merging.{marked_of}
 use Rattle.merges.proofs.Bitmaps.{marked_is}
-use Rattle.std.proofs.Common.{rules}
 use Rattle.merges.proofs.merging.marked.Goals as goal
 
 pub returns : goal.returns

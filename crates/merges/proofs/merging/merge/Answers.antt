@@ -1,5 +1,4 @@
 use Rattle.merges.specs.Merging.{merge_of, merged_by}
-use Rattle.std.proofs.Common.{rules}
 use Rattle.merges.proofs.merging.merge.Goals as goal
 
 pub returns-in-Empty : goal.returns-in-Empty

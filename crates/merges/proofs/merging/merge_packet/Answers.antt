@@ -1,4 +1,4 @@
-use Rattle.std.proofs.Common.{sym, ◌∙◌, rules}
+use Rattle.std.proofs.Common.{sym, ◌∙◌}
 use borrow.Author.Tests.{not-true, not-false}
 use Rattle.merges.proofs.Slips.{heard_packets}
 use Rattle.merges.proofs.merging.merge_packet.Goals as goal

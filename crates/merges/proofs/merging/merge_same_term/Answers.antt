@@ -1,5 +1,4 @@
 use Rattle.merges.proofs.Slips.{same_term_by}
-use Rattle.std.proofs.Common.{rules}
 use Rattle.merges.proofs.merging.merge_same_term.Goals as goal
 
 pub returns : goal.returns

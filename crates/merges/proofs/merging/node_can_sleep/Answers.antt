@@ -1,6 +1,4 @@
-use borrow.Author.Tests.{not-true, not-false}
 use Rattle.merges.specs.Merging.{can_sleep_of}
-use Rattle.std.proofs.Common.{rules}
 use Rattle.merges.proofs.merging.node_can_sleep.Goals as goal
 
 pub returns-then-not-node_goal_reached : goal.returns-then-not-node_goal_reached

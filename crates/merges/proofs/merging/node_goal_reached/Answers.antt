@@ -1,5 +1,4 @@
 use Rattle.merges.specs.Merging.{goal_of}
-use Rattle.std.proofs.Common.{rules}
 use Rattle.merges.proofs.merging.node_goal_reached.Goals as goal
 
 pub returns : goal.returns

@@ -1,4 +1,4 @@
-use Rattle.std.proofs.Common.{◌∙◌, rules}
+use Rattle.std.proofs.Common.{◌∙◌}
 use Rattle.merges.proofs.Bitmaps.{offered_is}
 use Rattle.merges.proofs.merging.offered.Goals as goal
 

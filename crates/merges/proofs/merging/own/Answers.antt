@@ -1,4 +1,4 @@
-use Rattle.std.proofs.Common.{true, ap, ◌∙◌, rules, le-ltb, lt-ltb}
+use Rattle.std.proofs.Common.{true, ap, ◌∙◌, le-ltb, lt-ltb}
 use Rattle.merges.specs.Merging.{own_of}
 use Rattle.merges.proofs.merging.own.Goals as goal
 

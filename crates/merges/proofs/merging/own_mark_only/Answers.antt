@@ -1,6 +1,5 @@
 use Rattle.merges.specs.Merging.{only_of}
 use Rattle.merges.proofs.Bitmaps.{only_is}
-use Rattle.std.proofs.Common.{rules}
 use Rattle.merges.proofs.merging.own_mark_only.Goals as goal
 
 pub returns : goal.returns

@@ -1,5 +1,4 @@
 use Rattle.merges.specs.Merging.{outcome_of}
-use Rattle.std.proofs.Common.{rules}
 use Rattle.merges.proofs.merging.proposal_outcome.Goals as goal
 
 pub returns-then-any_stands : goal.returns-then-any_stands

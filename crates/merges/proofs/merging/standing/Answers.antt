@@ -1,5 +1,4 @@
 use Rattle.merges.specs.Merging.{rank_of, standing_by}
-use Rattle.std.proofs.Common.{rules}
 use Rattle.merges.proofs.merging.standing.Goals as goal
 
 pub returns-in-Empty : goal.returns-in-Empty

@@ -1,4 +1,4 @@
-use Rattle.std.proofs.Common.{◌∙◌, rules}
+use Rattle.std.proofs.Common.{◌∙◌}
 use Rattle.merges.specs.Merging.{voiced_of}
 use Rattle.merges.proofs.merging.voice.Goals as goal
 

@@ -1,5 +1,4 @@
 use Rattle.merges.specs.Votes.{no_of}
-use Rattle.std.proofs.Common.{rules}
 use Rattle.merges.proofs.votes.should_abort_app.Goals as goal
 
 pub returns-then-p : goal.returns-then-p

@@ -1,5 +1,4 @@
 use Rattle.merges.specs.Votes.{hash_of}
-use Rattle.std.proofs.Common.{rules}
 use Rattle.merges.proofs.votes.vote_hash.Goals as goal
 
 pub returns : goal.returns

@@ -1,4 +1,4 @@
-use Rattle.std.proofs.Common.{refl, rules}
+use Rattle.std.proofs.Common.{refl}
 use Rattle.merges.specs.Votes.{share_of}
 use Rattle.merges.proofs.votes.vote_share.Goals as goal
 

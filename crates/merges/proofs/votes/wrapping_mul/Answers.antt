@@ -1,4 +1,4 @@
-use Rattle.std.proofs.Common.{◌/◌, ◌%◌, arith, rules}
+use Rattle.std.proofs.Common.{◌/◌, ◌%◌, arith}
 use Rattle.merges.proofs.Halves.{half_product, halves}
 use Rattle.merges.proofs.votes.wrapping_mul.Goals as goal
 

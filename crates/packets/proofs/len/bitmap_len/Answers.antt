@@ -1,6 +1,5 @@
 use mathlib.Core.Path.{◌≡◌, sym, ◌∙◌}
 use native.Mathlib.Omega.{arith}
-use borrow.Author.Rules.{rules}
 use Rattle.marks.specs.Marks.{count_of}
 use Rattle.marks.specs.Sets.{count_le}
 use Rattle.packets.proofs.Texts.{bitmap_len_none, bitmap_len_more, marks_len}

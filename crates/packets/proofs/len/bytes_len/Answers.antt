@@ -1,11 +1,6 @@
-use mathlib.Core.Path.{◌≡◌, refl}
-use Prim.Native.Nat.{◌+◌, ◌-◌, ◌*◌, ◌≤◌}
+use mathlib.Core.Path.{refl}
 use native.Mathlib.Omega.{arith}
-use borrow.Author.Rules.{rules}
-use lib.ListN.{length, take, drop}
 use Rattle.packets.proofs.Texts.{bytes_len_none, bytes_len_more}
-use Rattle.texts.specs.Decimal.{decimal}
-use Rattle.texts.specs.Readers.{items_text}
 use Rattle.packets.proofs.len.bytes_len.Goals as goal
 
 pub loop-i-init : goal.loop-i-init

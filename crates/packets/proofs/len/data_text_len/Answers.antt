@@ -1,5 +1,4 @@
 use native.Mathlib.Omega.{arith}
-use borrow.Author.Rules.{rules}
 use borrow.Author.Tests.{le-leb, lt-leb}
 use Rattle.packets.specs.Packets.{most_bytes}
 use Rattle.packets.specs.Writing.{data_len}

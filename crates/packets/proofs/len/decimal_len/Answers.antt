@@ -1,8 +1,6 @@
-use mathlib.Core.Path.{◌≡◌, refl}
-use Prim.Native.Nat.{◌+◌}
+use mathlib.Core.Path.{refl}
 use native.Mathlib.Omega.{arith}
-use lib.ListN.{length}
-use Rattle.texts.specs.Decimal.{decimal, decimal_word, length_small, length_step}
+use Rattle.texts.specs.Decimal.{decimal_word, length_small, length_step}
 use Rattle.packets.proofs.len.decimal_len.Goals as goal
 
 pub loop-rest-init : goal.loop-rest-init

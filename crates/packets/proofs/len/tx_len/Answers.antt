@@ -1,5 +1,4 @@
 use native.Mathlib.Omega.{arith}
-use borrow.Author.Rules.{rules}
 use Rattle.packets.proofs.len.tx_len.Goals as goal
 
 pub returns-in-Absent : goal.returns-in-Absent

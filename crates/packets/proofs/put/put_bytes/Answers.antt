@@ -1,8 +1,6 @@
 use mathlib.Core.List.{[], ◌∷◌, ◌++◌, append-nil}
 use mathlib.Core.Path.{sym}
-use Prim.Native.Nat.{◌+◌}
 use native.Mathlib.Omega.{arith}
-use borrow.Author.Rules.{rules}
 use lib.ListN.{take, drop, get_or}
 use Rattle.packets.proofs.Texts.{list_none, list_more}
 use Rattle.texts.specs.Decimal.{decimal}

@@ -1,4 +1,3 @@
-use borrow.Author.Rules.{rules}
 use Rattle.packets.specs.Packets.{data_text}
 use Rattle.texts.specs.Put.{put_then, room_first, room_next}
 use Rattle.packets.proofs.put.put_data_field.Goals as goal

@@ -1,8 +1,7 @@
 use mathlib.Core.List.{[], ◌∷◌, ◌++◌}
 use mathlib.Core.Path.{◌∙◌}
-use Prim.Native.Nat.{◌+◌, ◌-◌, ◌/◌, ◌%◌}
+use Prim.Native.Nat.{◌-◌, ◌/◌, ◌%◌}
 use native.Mathlib.Omega.{arith}
-use borrow.Author.Rules.{rules}
 use lib.Dec.{eqb}
 use Rattle.marks.specs.Marks.{marks_of}
 use Rattle.packets.proofs.Texts.{marks_none, marks_more}

@@ -1,12 +1,5 @@
-use mathlib.Core.List.{[], ◌∷◌, ◌++◌}
-use mathlib.Core.Path.{◌∙◌}
-use Prim.Native.Nat.{◌+◌, ◌-◌, ◌/◌, ◌%◌}
-use native.Mathlib.Omega.{arith}
-use borrow.Author.Rules.{rules}
-use lib.Dec.{eqb}
 use Rattle.marks.specs.Marks.{marks_of}
-use Rattle.packets.proofs.Texts.{marks_none, marks_more}
-use Rattle.texts.specs.Put.{Due, due_all, due_as, due_room, due_put, due_last}
+use Rattle.texts.specs.Put.{Due}
 use Rattle.texts.specs.Readers.{bool_text, items_text}
 use Rattle.packets.proofs.put.put_marks.Given as goal
 

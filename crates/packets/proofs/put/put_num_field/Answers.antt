@@ -1,4 +1,3 @@
-use borrow.Author.Rules.{rules}
 use Rattle.texts.specs.Decimal.{decimal}
 use Rattle.texts.specs.Put.{put_then, room_first, room_next}
 use Rattle.packets.proofs.put.put_num_field.Goals as goal

@@ -1,4 +1,3 @@
-use borrow.Author.Rules.{rules}
 use Rattle.packets.proofs.put.put_phase.Goals as goal
 
 pub put_all-requires : goal.put_all-requires

@@ -1,12 +1,7 @@
-use mathlib.Core.List.{[], ◌∷◌, ◌++◌}
-use mathlib.Core.Path.{◌∙◌}
-use Prim.Native.Nat.{◌+◌, ◌-◌, ◌≤◌}
-use native.Mathlib.Omega.{arith}
-use borrow.Author.Rules.{rules}
-use lib.ListN.{take, drop, get_or}
-use Rattle.packets.proofs.Texts.{bytes_none, bytes_more}
+use Prim.Native.Nat.{◌-◌, ◌≤◌}
+use lib.ListN.{take, drop}
 use Rattle.texts.specs.Decimal.{decimal}
-use Rattle.texts.specs.Put.{Due, due_all, due_as, due_room, due_put, due_last}
+use Rattle.texts.specs.Put.{Due}
 use Rattle.texts.specs.Readers.{items_text}
 use Rattle.packets.proofs.put.put_rest.Given as goal
 

@@ -2,7 +2,6 @@ use mathlib.Core.List.{[], ◌∷◌, ◌++◌}
 use mathlib.Core.Path.{sym, ◌∙◌}
 use Prim.Native.Nat.{◌+◌, ◌/◌, ◌%◌}
 use native.Mathlib.Omega.{arith}
-use borrow.Author.Rules.{rules}
 use Rattle.texts.specs.Decimal.{decimal_small, decimal_two, decimal_three}
 use Rattle.texts.specs.Put.{put_as, put_then, room_as, room_first, room_next}
 use Rattle.packets.proofs.put.put_small.Goals as goal

@@ -1,4 +1,3 @@
-use borrow.Author.Rules.{rules}
 use Rattle.packets.specs.Packets.{tx_text}
 use Rattle.texts.specs.Put.{put_then, room_first, room_next}
 use Rattle.packets.proofs.put.put_tx_field.Goals as goal

@@ -2,7 +2,6 @@ use mathlib.Core.List.{[], ◌∷◌}
 use mathlib.Core.Path.{sym, ◌∙◌}
 use Prim.Native.Nat.{◌+◌}
 use native.Mathlib.Omega.{arith}
-use borrow.Author.Rules.{rules}
 use Rattle.texts.specs.LiteralLaws.{with_done, with_short, with_other, with_more}
 use Rattle.texts.specs.Literals.{lit_at}
 use Rattle.packets.proofs.read.byte_at.Goals as goal

@@ -1,7 +1,5 @@
 use mathlib.Core.Path.{sym, ◌∙◌}
 use native.Mathlib.Omega.{arith}
-use borrow.Author.Rules.{rules}
-use borrow.Author.Tests.{not-true, not-false}
 use Rattle.texts.specs.LiteralLaws.{lit_le}
 use Rattle.texts.specs.Readers.{behind}
 use Rattle.packets.proofs.read.data_field.Goals as goal

@@ -1,8 +1,6 @@
 use mathlib.Core.List.{[], ◌∷◌}
 use mathlib.Core.Path.{sym, ◌∙◌}
 use native.Mathlib.Omega.{arith}
-use borrow.Author.Rules.{rules}
-use borrow.Author.Tests.{not-true, not-false}
 use Rattle.texts.specs.LiteralLaws.{lit_le}
 use Rattle.texts.specs.Readers.{ends_at}
 use Rattle.packets.proofs.read.ends_at.Goals as goal

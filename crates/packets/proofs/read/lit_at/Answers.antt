@@ -1,8 +1,6 @@
-use mathlib.Core.Path.{◌≡◌, refl, sym, ◌∙◌}
-use Prim.Native.Nat.{◌-◌}
+use mathlib.Core.Path.{refl, sym, ◌∙◌}
 use native.Mathlib.Omega.{arith}
-use lib.ListN.{length, drop}
-use Rattle.texts.specs.Literals.{starts_with, lit_at}
+use Rattle.texts.specs.Literals.{lit_at}
 use Rattle.texts.specs.LiteralLaws.{with_done, with_short, with_other, with_more}
 use Rattle.packets.proofs.read.lit_at.Goals as goal
 

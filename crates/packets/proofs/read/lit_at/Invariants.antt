@@ -1,9 +1,7 @@
-use mathlib.Core.Path.{◌≡◌, refl, sym, ◌∙◌}
+use mathlib.Core.Path.{◌≡◌}
 use Prim.Native.Nat.{◌-◌}
-use native.Mathlib.Omega.{arith}
 use lib.ListN.{length, drop}
 use Rattle.texts.specs.Literals.{starts_with, lit_at}
-use Rattle.texts.specs.LiteralLaws.{with_done, with_short, with_other, with_more}
 use Rattle.packets.proofs.read.lit_at.Given as goal
 
 abbrev pub invariant-loop-j : goal.invariant-loop-j

@@ -1,13 +1,6 @@
-use mathlib.Core.List.{[], ◌∷◌}
-use mathlib.Core.Path.{◌≡◌, sym, ap, ◌∙◌}
-use Prim.Native.Nat.{◌+◌, ◌-◌, ◌^◌, ◌≤◌, ◌<◌}
-use native.Mathlib.Omega.{arith}
-use borrow.Author.Rules.{rules}
-use borrow.Author.Tests.{not-true, not-false}
-use Rattle.packets.proofs.Founds.{bool_got, bool_bad}
-use Rattle.packets.specs.Reading.{bitmap_of, bitmap_at, bitmap_found}
-use Rattle.texts.specs.ListLaws.{turn_none, turn_bad, turn_last, turn_stop, turn_more, list_shut, list_empty, list_open}
-use Rattle.texts.specs.LiteralLaws.{lit_le}
+use mathlib.Core.Path.{◌≡◌}
+use Prim.Native.Nat.{◌-◌, ◌^◌, ◌≤◌, ◌<◌}
+use Rattle.packets.specs.Reading.{bitmap_of, bitmap_at}
 use Rattle.texts.specs.Readers.{map, bool_at, items_at}
 use Rattle.texts.specs.Stores.{store_mark}
 use Rattle.packets.proofs.read.read_bitmap.Given as goal

@@ -1,7 +1,6 @@
 use mathlib.Core.Bool.{true, false}
 use mathlib.Core.Path.{sym, ◌∙◌}
 use native.Mathlib.Omega.{arith}
-use borrow.Author.Rules.{rules}
 use Rattle.texts.specs.LiteralLaws.{lit_le}
 use Rattle.texts.specs.Readers.{bool_text, bool_at}
 use Rattle.packets.proofs.read.read_bool.Goals as goal

@@ -1,13 +1,11 @@
 use mathlib.Core.Bool.{true}
 use mathlib.Core.Path.{◌≡◌, sym, ap, ◌∙◌}
-use Prim.Native.Nat.{◌+◌, ◌-◌, ◌*◌, ◌≤◌, ◌<◌}
+use Prim.Native.Nat.{◌+◌, ◌-◌, ◌*◌, ◌<◌}
 use native.Mathlib.Omega.{arith}
-use borrow.Author.Rules.{rules}
-use borrow.Author.Tests.{not-true, not-false}
-use lib.ListN.{length, drop, get_or}
+use lib.ListN.{get_or}
 use Rattle.packets.specs.Reading.{num_found}
 use Rattle.texts.specs.NumberLaws.{digit_range, digits_end, digits_stop, digits_big, digits_more}
-use Rattle.texts.specs.Readers.{is_digit, digits, num_at}
+use Rattle.texts.specs.Readers.{is_digit, num_at}
 use Rattle.packets.proofs.read.read_num.Goals as goal
 
 pub returns-then-not-starts_num : goal.returns-then-not-starts_num

@@ -1,13 +1,7 @@
-use mathlib.Core.Bool.{true}
-use mathlib.Core.Path.{◌≡◌, sym, ap, ◌∙◌}
-use Prim.Native.Nat.{◌+◌, ◌-◌, ◌*◌, ◌≤◌, ◌<◌}
-use native.Mathlib.Omega.{arith}
-use borrow.Author.Rules.{rules}
-use borrow.Author.Tests.{not-true, not-false}
-use lib.ListN.{length, drop, get_or}
-use Rattle.packets.specs.Reading.{num_found}
-use Rattle.texts.specs.NumberLaws.{digit_range, digits_end, digits_stop, digits_big, digits_more}
-use Rattle.texts.specs.Readers.{is_digit, digits, num_at}
+use mathlib.Core.Path.{◌≡◌}
+use Prim.Native.Nat.{◌+◌, ◌-◌, ◌≤◌}
+use lib.ListN.{length, drop}
+use Rattle.texts.specs.Readers.{digits, num_at}
 use Rattle.packets.proofs.read.read_num.Given as goal
 
 abbrev pub invariant-loop-i : goal.invariant-loop-i

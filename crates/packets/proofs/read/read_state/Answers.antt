@@ -1,6 +1,5 @@
 use mathlib.Core.Path.{sym, ◌∙◌}
 use native.Mathlib.Omega.{arith}
-use borrow.Author.Rules.{rules}
 use Rattle.packets.proofs.Founds.{phase_got, phase_bad}
 use Rattle.packets.specs.Reading.{state_at, phase_at}
 use Rattle.texts.specs.LiteralLaws.{lit_le}

@@ -1,7 +1,6 @@
 use mathlib.Core.Path.{sym, ◌∙◌}
 use Prim.Native.Nat.{◌^◌}
 use native.Mathlib.Omega.{arith}
-use borrow.Author.Rules.{rules}
 use Rattle.packets.proofs.Founds.{num_got, num_bad}
 use Rattle.packets.specs.Reading.{tx_at}
 use Rattle.texts.specs.LiteralLaws.{lit_le}

@@ -3,7 +3,6 @@ use mathlib.Core.Bool.{not}
 use Prim.Native.Nat.{◌+◌}
 use native.Mathlib.Omega.{arith}
 use Rattle.texts.specs.NumberLaws.{head_end, head_at, starts_end, starts_other, starts_zero}
-use borrow.Author.Rules.{rules}
 use Rattle.packets.proofs.read.starts_num.Goals as goal
 
 pub returns-then-at-s : goal.returns-then-at-s

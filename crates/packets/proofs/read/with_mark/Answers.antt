@@ -1,5 +1,4 @@
 use native.Mathlib.Omega.{arith}
-use borrow.Author.Rules.{rules}
 use Rattle.packets.proofs.Words.{with_fits, with_yes, with_no}
 use Rattle.packets.proofs.read.with_mark.Goals as goal
 

@@ -1,5 +1,4 @@
 use native.Mathlib.Omega.{arith}
-use borrow.Author.Rules.{rules}
 use borrow.Author.Tests.{lt-ltb, lt-leb, le-leb}
 use Rattle.packets.specs.Writing.{parts_len}
 use Rattle.packets.proofs.Texts.{bitmap_len_is, bitmap_len_le}

@@ -1,5 +1,4 @@
 use mathlib.Core.Path.{sym}
-use borrow.Author.Rules.{rules}
 use Rattle.packets.proofs.Lengths.{parts_is}
 use Rattle.packets.proofs.two_pc_ce.ce_text_len.Goals as goal
 

@@ -1,6 +1,5 @@
 use native.Mathlib.Omega.{arith}
 use Rattle.packets.proofs.Proposals.{tx_room, tx_data}
-use borrow.Author.Rules.{rules}
 use Rattle.packets.proofs.two_pc_ce.proposal_data.Goals as goal
 
 pub put_decimal-next-requires : goal.put_decimal-next-requires

@@ -1,6 +1,5 @@
 use mathlib.Core.Path.{refl, sym, ◌∙◌}
 use Prim.Native.Nat.{◌^◌}
-use borrow.Author.Rules.{rules}
 use borrow.Author.Tests.{not-true, not-false}
 use Rattle.packets.proofs.Founds.{num_got, num_bad, phase_got, phase_bad, bitmap_got, bitmap_bad, data_got, data_bad}
 use Rattle.packets.specs.Packets.{key_term, key_phase, key_proposal_data, key_flags_bitmap}

@@ -1,8 +1,6 @@
 use mathlib.Core.Path.{◌≡◌, sym, ◌∙◌}
 use native.Mathlib.Omega.{arith}
 use lib.ListN.{length}
-use borrow.Author.Rules.{rules}
-use borrow.Author.Tests.{not-true, not-false}
 use Rattle.packets.proofs.Writes.{limits_true, measured, wrote_bad, wrote_short, wrote}
 use Rattle.packets.specs.Packets.{ce_text, ce_within}
 use Rattle.packets.proofs.two_pc_ce.write_ce_packet.Goals as goal

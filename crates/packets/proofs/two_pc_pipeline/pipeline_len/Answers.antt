@@ -1,5 +1,4 @@
 use native.Mathlib.Omega.{arith}
-use borrow.Author.Rules.{rules}
 use Rattle.packets.proofs.Texts.{bitmap_len_le}
 use Rattle.packets.proofs.Writes.{phase_le, pipeline_length, state_le, bool_le}
 use Rattle.packets.proofs.two_pc_pipeline.pipeline_len.Goals as goal

@@ -1,6 +1,4 @@
 use mathlib.Core.Path.{sym, ◌∙◌}
-use borrow.Author.Rules.{rules}
-use borrow.Author.Tests.{not-true, not-false}
 use Rattle.packets.proofs.Writes.{limits_true}
 use Rattle.packets.proofs.two_pc_pipeline.pipeline_text_len.Goals as goal
 

@@ -1,8 +1,7 @@
 use mathlib.Core.List.{List, [], ◌∷◌, ◌++◌}
 use mathlib.Core.Path.{◌∙◌}
-use Prim.Native.Nat.{ℕ, ◌+◌}
+use Prim.Native.Nat.{ℕ}
 use native.Mathlib.Omega.{arith}
-use borrow.Author.Rules.{rules}
 use Rattle.packets.specs.Packets.{phase_text, bitmap_text, data_text, tx_text, state_text, pipeline_text, key_flags_bitmap, key_transaction_id, key_state, key_abort_flag, key_nack_tx_id, key_transaction_data, key_sender, key_piggyback_tx, key_piggyback_state, key_end}
 use Rattle.packets.specs.declared.TwoPcPacket.{TwoPcPacket}
 use Rattle.texts.specs.Decimal.{decimal}

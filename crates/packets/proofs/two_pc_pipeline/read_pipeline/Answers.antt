@@ -1,6 +1,5 @@
 use mathlib.Core.Path.{refl, sym, ◌∙◌}
 use Prim.Native.Nat.{◌^◌}
-use borrow.Author.Rules.{rules}
 use borrow.Author.Tests.{not-true, not-false}
 use Rattle.packets.proofs.Founds.{num_got, num_bad, bool_got, bool_bad, phase_got, phase_bad, bitmap_got, bitmap_bad, tx_got, tx_bad, state_got, state_bad, data_got, data_bad}
 use Rattle.packets.specs.Packets.{key_flags_bitmap, key_transaction_id, key_state, key_abort_flag, key_nack_tx_id, key_transaction_data, key_sender, key_piggyback_tx, key_piggyback_state}

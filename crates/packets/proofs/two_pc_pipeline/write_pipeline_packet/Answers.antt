@@ -1,7 +1,5 @@
 use mathlib.Core.Path.{sym, ◌∙◌}
 use native.Mathlib.Omega.{arith}
-use borrow.Author.Rules.{rules}
-use borrow.Author.Tests.{not-true, not-false}
 use Rattle.packets.proofs.Writes.{limits_true, wrote_bad, wrote_short, wrote}
 use Rattle.packets.specs.Packets.{pipeline_text, pipeline_within}
 use Rattle.packets.proofs.two_pc_pipeline.write_pipeline_packet.Goals as goal

@@ -1,5 +1,4 @@
 use mathlib.Core.Path.{sym, ◌∙◌}
-use borrow.Author.Rules.{rules}
 use Rattle.packets_c.proofs.asking.ce_vote.Goals as goal
 
 pub returns-then-should_abort_app : goal.returns-then-should_abort_app

@@ -1,6 +1,5 @@
 use mathlib.Core.Path.{sym, ◌∙◌}
-use borrow.Author.Tests.{le-leb, lt-leb, not-true, not-false}
-use borrow.Author.Rules.{rules}
+use borrow.Author.Tests.{le-leb, lt-leb}
 use Rattle.packets_c.specs.Console.{ce_asked}
 use Rattle.packets_c.proofs.Asked.{ce_small}
 use Rattle.packets_c.proofs.console.ce_asked.Goals as goal
@@ -13,9 +12,9 @@ pub returns-then-bytes_len-bytes : goal.returns-then-bytes_len-bytes
 unfolding ce_asked
 returns-then-bytes_len-bytes c =
     c.no_ce-then-bytes_len-bytes.ensures ∙ rw (
-  le-leb 5 _ c.if-numbers-lt5.false,
-  lt-leb _ _ c.if-bytes_len-bytes.true,
-)
+      le-leb 5 _ c.if-numbers-lt5.false,
+      lt-leb _ _ c.if-bytes_len-bytes.true,
+    )
 
 pub returns-then-not-ce_fits : goal.returns-then-not-ce_fits
 unfolding ce_asked
@@ -34,9 +33,9 @@ pub returns : goal.returns
 unfolding ce_asked
 returns c =
     rw (
-  le-leb 5 _ c.if-numbers-lt5.false,
-  le-leb _ _ c.if-bytes_len-bytes.false,
-  sym c.ce_fits.ensures ∙ c.if-not-ce_fits.false,
-  c.ce_packet-packet.ensures,
-  c.filled-kept.ensures,
-)
+      le-leb 5 _ c.if-numbers-lt5.false,
+      le-leb _ _ c.if-bytes_len-bytes.false,
+      sym c.ce_fits.ensures ∙ c.if-not-ce_fits.false,
+      c.ce_packet-packet.ensures,
+      c.filled-kept.ensures,
+    )

@@ -1,5 +1,4 @@
 use borrow.Author.Tests.{le-leb, lt-leb}
-use borrow.Author.Rules.{rules}
 use Rattle.packets_c.specs.Console.{ce_fits}
 use Rattle.packets_c.proofs.console.ce_fits.Goals as goal
 

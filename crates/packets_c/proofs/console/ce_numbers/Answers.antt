@@ -1,4 +1,3 @@
-use borrow.Author.Rules.{rules}
 use Rattle.packets_c.specs.Console.{ce_numbers}
 use Rattle.packets_c.proofs.console.ce_numbers.Goals as goal
 

@@ -1,4 +1,3 @@
-use borrow.Author.Rules.{rules}
 use Rattle.packets_c.proofs.console.ce_packet.Goals as goal
 
 pub returns : goal.returns

@@ -1,10 +1,10 @@
 use mathlib.Core.Path.{◌≡◌, refl, sym, ap, ◌∙◌}
-use Prim.Native.Nat.{ℕ, ◌-◌, ◌≤◌}
+use Prim.Native.Nat.{ℕ}
 use native.Mathlib.Numerals.{add-one}
 use native.Mathlib.Omega.{arith}
-use lib.ListN.{length, take, get_or, replicate, length-set}
+use lib.ListN.{take, get_or, replicate, length-set}
 use lib.Seq.{take-suc}
-use Rattle.texts.specs.Put.{written, Put, put_byte, put_as, put_more, put_none}
+use Rattle.texts.specs.Put.{written, put_byte, put_as, put_more, put_none}
 use Rattle.packets_c.proofs.console.filled.Goals as goal
 
 pub loop-i-init : goal.loop-i-init

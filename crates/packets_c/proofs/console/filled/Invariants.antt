@@ -1,10 +1,7 @@
-use mathlib.Core.Path.{◌≡◌, refl, sym, ap, ◌∙◌}
-use Prim.Native.Nat.{ℕ, ◌-◌, ◌≤◌}
-use native.Mathlib.Numerals.{add-one}
-use native.Mathlib.Omega.{arith}
-use lib.ListN.{length, take, get_or, replicate, length-set}
-use lib.Seq.{take-suc}
-use Rattle.texts.specs.Put.{written, Put, put_byte, put_as, put_more, put_none}
+use mathlib.Core.Path.{◌≡◌}
+use Prim.Native.Nat.{◌-◌, ◌≤◌}
+use lib.ListN.{length, take, replicate}
+use Rattle.texts.specs.Put.{Put}
 use Rattle.packets_c.proofs.console.filled.Given as goal
 
 abbrev pub invariant-loop-i : goal.invariant-loop-i

@@ -1,6 +1,5 @@
 use mathlib.Core.Path.{sym, ◌∙◌}
-use borrow.Author.Tests.{le-leb, lt-leb, not-true, not-false}
-use borrow.Author.Rules.{rules}
+use borrow.Author.Tests.{le-leb, lt-leb}
 use Rattle.packets_c.proofs.console.piggyback_fits.Goals as goal
 
 pub returns-then-not-pair_fits : goal.returns-then-not-pair_fits

@@ -1,6 +1,5 @@
 use mathlib.Core.Path.{sym, ◌∙◌}
-use borrow.Author.Tests.{le-leb, lt-leb, not-true, not-false}
-use borrow.Author.Rules.{rules}
+use borrow.Author.Tests.{le-leb, lt-leb}
 use Rattle.packets_c.specs.Console.{pipeline_asked}
 use Rattle.packets_c.proofs.Asked.{pipeline_small}
 use Rattle.packets_c.proofs.console.pipeline_asked.Goals as goal
@@ -13,9 +12,9 @@ pub returns-then-bytes_len-bytes : goal.returns-then-bytes_len-bytes
 unfolding pipeline_asked
 returns-then-bytes_len-bytes c =
     c.no_pipeline-then-bytes_len-bytes.ensures ∙ rw (
-  le-leb 12 _ c.if-numbers-lt12.false,
-  lt-leb _ _ c.if-bytes_len-bytes.true,
-)
+      le-leb 12 _ c.if-numbers-lt12.false,
+      lt-leb _ _ c.if-bytes_len-bytes.true,
+    )
 
 pub returns-then-not-pipeline_fits : goal.returns-then-not-pipeline_fits
 unfolding pipeline_asked
@@ -34,9 +33,9 @@ pub returns : goal.returns
 unfolding pipeline_asked
 returns c =
     rw (
-  le-leb 12 _ c.if-numbers-lt12.false,
-  le-leb _ _ c.if-bytes_len-bytes.false,
-  sym c.pipeline_fits.ensures ∙ c.if-not-pipeline_fits.false,
-  c.pipeline_packet-packet.ensures,
-  c.filled-kept.ensures,
-)
+      le-leb 12 _ c.if-numbers-lt12.false,
+      le-leb _ _ c.if-bytes_len-bytes.false,
+      sym c.pipeline_fits.ensures ∙ c.if-not-pipeline_fits.false,
+      c.pipeline_packet-packet.ensures,
+      c.filled-kept.ensures,
+    )

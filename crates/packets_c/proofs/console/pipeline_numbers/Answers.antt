@@ -1,4 +1,3 @@
-use borrow.Author.Rules.{rules}
 use Rattle.packets_c.specs.Console.{pipeline_numbers}
 use Rattle.packets_c.proofs.console.pipeline_numbers.Goals as goal
 

@@ -1,4 +1,3 @@
-use borrow.Author.Rules.{rules}
 use Rattle.packets_c.proofs.Asked.{write_no, write_refused, write_yes}
 use Rattle.packets.specs.Packets.{pipeline_text, pipeline_within}
 use Rattle.packets_c.proofs.console.pipeline_packet_write.Goals as goal

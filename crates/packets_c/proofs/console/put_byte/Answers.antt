@@ -1,5 +1,4 @@
 use Rattle.texts.specs.Put.{put_byte}
-use borrow.Author.Rules.{rules}
 use Rattle.packets_c.proofs.console.put_byte.Goals as goal
 
 pub returns : goal.returns

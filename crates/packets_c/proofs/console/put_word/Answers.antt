@@ -1,4 +1,3 @@
-use borrow.Author.Rules.{rules}
 use Rattle.texts.specs.Put.{put_byte}
 use Rattle.packets_c.proofs.console.put_word.Goals as goal
 

@@ -1,11 +1,8 @@
-use mathlib.Core.Path.{◌≡◌, refl, sym, ◌∙◌}
-use Prim.Native.Nat.{◌-◌, ◌≤◌}
+use mathlib.Core.Path.{refl, sym, ◌∙◌}
 use native.Mathlib.Numerals.{add-one}
 use native.Mathlib.Omega.{arith}
-use borrow.Author.Rules.{rules}
-use lib.ListN.{length, take}
 use lib.Seq.{take-suc, take_all, length-take-le}
-use Rattle.texts.specs.Put.{Put, put_as, put_more, put_none}
+use Rattle.texts.specs.Put.{put_as, put_more, put_none}
 use Rattle.packets_c.proofs.console.put_words.Goals as goal
 
 pub loop-j-init : goal.loop-j-init

@@ -1,11 +1,7 @@
-use mathlib.Core.Path.{◌≡◌, refl, sym, ◌∙◌}
+use mathlib.Core.Path.{◌≡◌}
 use Prim.Native.Nat.{◌-◌, ◌≤◌}
-use native.Mathlib.Numerals.{add-one}
-use native.Mathlib.Omega.{arith}
-use borrow.Author.Rules.{rules}
 use lib.ListN.{length, take}
-use lib.Seq.{take-suc, take_all, length-take-le}
-use Rattle.texts.specs.Put.{Put, put_as, put_more, put_none}
+use Rattle.texts.specs.Put.{Put}
 use Rattle.packets_c.proofs.console.put_words.Given as goal
 
 abbrev pub invariant-loop-j : goal.invariant-loop-j

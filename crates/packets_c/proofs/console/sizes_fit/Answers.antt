@@ -1,7 +1,5 @@
 use mathlib.Core.Path.{sym, ◌∙◌}
 use native.Mathlib.Omega.{arith}
-use borrow.Author.Tests.{not-true, not-false}
-use borrow.Author.Rules.{rules}
 use Rattle.marks.specs.Laws.{one_shl}
 use Rattle.packets_c.proofs.Asked.{all_fit}
 use Rattle.packets_c.proofs.console.sizes_fit.Goals as goal

@@ -1,7 +1,6 @@
 use mathlib.Core.Path.{sym, ap, ◌∙◌}
 use Rattle.packets_c.specs.Desk.{Desk, voters}
 use Rattle.packets_c.proofs.Desks.{desk_refused, desk_redundant, desk_rewritten}
-use borrow.Author.Rules.{rules}
 use Rattle.packets_c.proofs.desk.ce_packet_merge.Goals as goal
 
 pub returns-then-k-ne0 : goal.returns-then-k-ne0

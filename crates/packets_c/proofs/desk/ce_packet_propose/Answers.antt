@@ -3,7 +3,6 @@ use Rattle.packets.specs.declared.Wrote.{Wrote}
 use Rattle.packets_c.specs.Console.{next_of}
 use Rattle.packets_c.specs.Desk.{voters}
 use Rattle.packets_c.proofs.Desks.{kept, taken, propose_refused, propose_leaves, propose_wrote, propose_left}
-use borrow.Author.Rules.{rules}
 use Rattle.packets_c.proofs.desk.ce_packet_propose.Goals as goal
 
 pub returns-then-k-ne0 : goal.returns-then-k-ne0

@@ -1,5 +1,4 @@
 use Rattle.packets_c.proofs.Desks.{read_empty, read_packet, read_none}
-use borrow.Author.Rules.{rules}
 use Rattle.packets_c.proofs.desk.payload_of.Goals as goal
 
 pub returns-then-len-eq0 : goal.returns-then-len-eq0

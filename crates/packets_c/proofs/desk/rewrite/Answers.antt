@@ -2,7 +2,6 @@ use mathlib.Core.Path.{sym, ap, ◌∙◌}
 use Rattle.packets.specs.declared.Wrote.{Wrote}
 use Rattle.packets_c.proofs.Desks.{kept, taken}
 use Rattle.packets_c.specs.Desk.{rewritten}
-use borrow.Author.Rules.{rules}
 use Rattle.packets_c.proofs.desk.rewrite.Goals as goal
 
 pub returns-then-w-ne0 : goal.returns-then-w-ne0

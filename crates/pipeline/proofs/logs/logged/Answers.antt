@@ -1,5 +1,5 @@
-use Rattle.std.proofs.Common.{◌≡◌, ◌-◌, ◌^◌, ◌<◌, ◌≤◌, arith, rules}
-use Rattle.loops.specs.Upto.{upto, upto_none, upto_turn, upto_all}
+use Rattle.std.proofs.Common.{arith, rules}
+use Rattle.loops.specs.Upto.{upto_none, upto_turn, upto_all}
 use Rattle.engines.proofs.Marking.{with_is}
 use Rattle.pipeline.specs.Pending.{logged_at, logged_of}
 use Rattle.pipeline.proofs.logs.logged.Goals as goal

@@ -1,7 +1,6 @@
-use Rattle.std.proofs.Common.{◌≡◌, ◌-◌, ◌^◌, ◌<◌, ◌≤◌, arith, rules}
-use Rattle.loops.specs.Upto.{upto, upto_none, upto_turn, upto_all}
-use Rattle.engines.proofs.Marking.{with_is}
-use Rattle.pipeline.specs.Pending.{logged_at, logged_of}
+use Rattle.std.proofs.Common.{◌≡◌, ◌-◌, ◌^◌, ◌<◌, ◌≤◌}
+use Rattle.loops.specs.Upto.{upto}
+use Rattle.pipeline.specs.Pending.{logged_at}
 use Rattle.pipeline.proofs.logs.logged.Given as goal
 
 abbrev pub invariant-loop-k : goal.invariant-loop-k

@@ -1,5 +1,5 @@
-use Rattle.std.proofs.Common.{◌≡◌, ◌-◌, ◌≤◌, refl, arith, rules}
-use Rattle.loops.specs.Downto.{downto, downto_turn, downto_none}
+use Rattle.std.proofs.Common.{refl, arith, rules}
+use Rattle.loops.specs.Downto.{downto_turn, downto_none}
 use Rattle.pipeline.specs.Pending.{outcome_at, outcome_of}
 use Rattle.pipeline.proofs.logs.outcome.Goals as goal
 

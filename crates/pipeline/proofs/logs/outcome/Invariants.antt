@@ -1,6 +1,6 @@
-use Rattle.std.proofs.Common.{◌≡◌, ◌-◌, ◌≤◌, refl, arith, rules}
-use Rattle.loops.specs.Downto.{downto, downto_turn, downto_none}
-use Rattle.pipeline.specs.Pending.{outcome_at, outcome_of}
+use Rattle.std.proofs.Common.{◌≡◌, ◌≤◌}
+use Rattle.loops.specs.Downto.{downto}
+use Rattle.pipeline.specs.Pending.{outcome_at}
 use Rattle.pipeline.proofs.logs.outcome.Given as goal
 
 abbrev pub invariant-loop-k : goal.invariant-loop-k

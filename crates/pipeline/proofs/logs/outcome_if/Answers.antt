@@ -1,4 +1,4 @@
-use Rattle.std.proofs.Common.{sym, ◌∙◌, rules, eq-eqb, ne_eqb}
+use Rattle.std.proofs.Common.{sym, ◌∙◌, eq-eqb, ne_eqb}
 use Rattle.pipeline.proofs.logs.outcome_if.Goals as goal
 
 pub returns-then-wide-t : goal.returns-then-wide-t

@@ -1,4 +1,4 @@
-use Rattle.std.proofs.Common.{rules, le-ltb, lt-ltb}
+use Rattle.std.proofs.Common.{le-ltb, lt-ltb}
 use Rattle.pipeline.specs.Pending.{pushed}
 use Rattle.pipeline.proofs.logs.push.Goals as goal
 

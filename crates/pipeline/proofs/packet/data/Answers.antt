@@ -1,5 +1,4 @@
-use Rattle.std.proofs.Common.{rules, le-ltb, lt-ltb}
-use borrow.Author.Tests.{not-true, not-false}
+use Rattle.std.proofs.Common.{le-ltb, lt-ltb}
 use Rattle.pipeline.specs.Pipeline.{data_of}
 use Rattle.pipeline.proofs.packet.data.Goals as goal
 

@@ -1,5 +1,4 @@
 use Rattle.pipeline.specs.Pipeline.{packet_of}
-use Rattle.std.proofs.Common.{rules}
 use Rattle.pipeline.proofs.packet.full_packet.Goals as goal
 
 pub returns : goal.returns

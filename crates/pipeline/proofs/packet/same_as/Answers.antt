@@ -1,4 +1,3 @@
-use Rattle.std.proofs.Common.{rules}
 use Rattle.pipeline.proofs.packet.same_as.Goals as goal
 
 pub returns-in-Present : goal.returns-in-Present

@@ -1,4 +1,4 @@
-use Rattle.std.proofs.Common.{rules, eq-eqb, ne_eqb}
+use Rattle.std.proofs.Common.{eq-eqb, ne_eqb}
 use Rattle.pipeline.proofs.packet.same_outcome.Goals as goal
 
 pub returns-then-t-u : goal.returns-then-t-u

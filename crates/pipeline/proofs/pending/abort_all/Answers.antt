@@ -1,8 +1,6 @@
-use Rattle.std.proofs.Common.{◌≡◌, ◌-◌, ◌^◌, ◌<◌, refl, arith, rules}
-use Rattle.marks.specs.Marks.{count_of}
-use Rattle.engines.specs.Marked.{over_marks}
+use Rattle.std.proofs.Common.{refl, arith}
 use Rattle.engines.proofs.Marking.{without, over_less, over_turn, over_none}
-use Rattle.pipeline.specs.Pending.{abort_at, abort_all}
+use Rattle.pipeline.specs.Pending.{abort_all}
 use Rattle.pipeline.proofs.pending.abort_all.Goals as goal
 
 pub loop-left-init : goal.loop-left-init

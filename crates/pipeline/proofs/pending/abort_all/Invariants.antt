@@ -1,8 +1,7 @@
-use Rattle.std.proofs.Common.{◌≡◌, ◌-◌, ◌^◌, ◌<◌, refl, arith, rules}
+use Rattle.std.proofs.Common.{◌≡◌, ◌^◌, ◌<◌}
 use Rattle.marks.specs.Marks.{count_of}
 use Rattle.engines.specs.Marked.{over_marks}
-use Rattle.engines.proofs.Marking.{without, over_less, over_turn, over_none}
-use Rattle.pipeline.specs.Pending.{abort_at, abort_all}
+use Rattle.pipeline.specs.Pending.{abort_at}
 use Rattle.pipeline.proofs.pending.abort_all.Given as goal
 
 abbrev pub invariant-loop-left : goal.invariant-loop-left

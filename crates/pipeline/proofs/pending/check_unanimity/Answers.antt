@@ -1,5 +1,4 @@
-use Rattle.std.proofs.Common.{sym, ◌∙◌, arith, rules}
-use borrow.Author.Tests.{not-true, not-false}
+use Rattle.std.proofs.Common.{sym, ◌∙◌, arith}
 use Rattle.marks.specs.Laws.{has_out}
 use Rattle.pipeline.specs.Pending.{unanimous_of}
 use Rattle.pipeline.proofs.pending.check_unanimity.Goals as goal

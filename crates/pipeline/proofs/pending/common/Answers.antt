@@ -1,4 +1,4 @@
-use Rattle.std.proofs.Common.{arith, rules}
+use Rattle.std.proofs.Common.{arith}
 use Rattle.pipeline.proofs.Joining.{common_is}
 use Rattle.pipeline.proofs.pending.common.Goals as goal
 

@@ -1,6 +1,6 @@
-use Rattle.std.proofs.Common.{◌≡◌, ◌-◌, ◌≤◌, rules}
-use Rattle.loops.specs.Upto.{upto, upto_none, upto_turn, upto_all}
-use Rattle.pipeline.specs.Pending.{gap_at, gap_of}
+use Rattle.std.proofs.Common.{rules}
+use Rattle.loops.specs.Upto.{upto_none, upto_turn, upto_all}
+use Rattle.pipeline.specs.Pending.{gap_of}
 use Rattle.pipeline.proofs.pending.detect_gap.Goals as goal
 
 pub loop-t-init : goal.loop-t-init

@@ -1,6 +1,6 @@
-use Rattle.std.proofs.Common.{◌≡◌, ◌-◌, ◌≤◌, rules}
-use Rattle.loops.specs.Upto.{upto, upto_none, upto_turn, upto_all}
-use Rattle.pipeline.specs.Pending.{gap_at, gap_of}
+use Rattle.std.proofs.Common.{◌≡◌, ◌-◌, ◌≤◌}
+use Rattle.loops.specs.Upto.{upto}
+use Rattle.pipeline.specs.Pending.{gap_at}
 use Rattle.pipeline.proofs.pending.detect_gap.Given as goal
 
 abbrev pub invariant-loop-t : goal.invariant-loop-t

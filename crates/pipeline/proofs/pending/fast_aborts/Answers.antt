@@ -1,5 +1,4 @@
 use Rattle.pipeline.specs.Pending.{fast_of}
-use Rattle.std.proofs.Common.{rules}
 use Rattle.pipeline.proofs.pending.fast_aborts.Goals as goal
 
 pub returns : goal.returns

@@ -1,4 +1,4 @@
-use Rattle.std.proofs.Common.{sym, ◌∙◌, rules}
+use Rattle.std.proofs.Common.{sym, ◌∙◌}
 use Rattle.pipeline.specs.Pending.{finalize_tx}
 use Rattle.pipeline.proofs.pending.finalize_tx.Goals as goal
 

@@ -1,4 +1,4 @@
-use Rattle.std.proofs.Common.{sym, ◌∙◌, rules, eq-eqb, ne_eqb}
+use Rattle.std.proofs.Common.{sym, ◌∙◌, eq-eqb, ne_eqb}
 use Rattle.pipeline.specs.Pending.{gap_at}
 use Rattle.pipeline.proofs.pending.gap_at.Goals as goal
 

@@ -1,4 +1,4 @@
-use Rattle.std.proofs.Common.{rules, le-leb}
+use Rattle.std.proofs.Common.{le-leb}
 use borrow.Author.Tests.{lt-leb}
 use Rattle.pipeline.specs.Pending.{votes_at}
 use Rattle.pipeline.proofs.pending.join_at.Goals as goal

@@ -1,9 +1,6 @@
-use Rattle.std.proofs.Common.{◌≡◌, ◌-◌, ◌^◌, ◌<◌, refl, arith, rules}
-use Rattle.marks.specs.Marks.{count_of}
+use Rattle.std.proofs.Common.{refl, arith}
 use Rattle.marks.specs.Sets.{lowest_lt}
-use Rattle.engines.specs.Marked.{over_marks}
 use Rattle.engines.proofs.Marking.{without, over_less, over_turn, over_none}
-use Rattle.pipeline.specs.Pending.{votes_at}
 use Rattle.pipeline.proofs.pending.join_up_to.Goals as goal
 
 pub loop-left-init : goal.loop-left-init

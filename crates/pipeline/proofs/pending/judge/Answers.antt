@@ -1,4 +1,4 @@
-use Rattle.std.proofs.Common.{◌∙◌, rules}
+use Rattle.std.proofs.Common.{◌∙◌}
 use Rattle.pipeline.proofs.Judging.{judged_due}
 use Rattle.pipeline.proofs.pending.judge.Goals as goal
 

@@ -1,8 +1,5 @@
-use Rattle.std.proofs.Common.{◌≡◌, ◌^◌, ◌<◌, refl, arith, rules}
-use Rattle.marks.specs.Marks.{count_of}
-use Rattle.engines.specs.Marked.{over_marks}
+use Rattle.std.proofs.Common.{refl, arith}
 use Rattle.engines.proofs.Marking.{without, over_less, over_turn, over_none}
-use Rattle.pipeline.specs.Pending.{settle_at}
 use Rattle.pipeline.proofs.pending.judge_all.Goals as goal
 
 pub loop-left-init : goal.loop-left-init

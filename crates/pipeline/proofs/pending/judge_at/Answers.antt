@@ -1,4 +1,3 @@
-use Rattle.std.proofs.Common.{rules}
 use Rattle.pipeline.specs.Pending.{settle_at}
 use Rattle.pipeline.proofs.pending.judge_at.Goals as goal
 

@@ -1,4 +1,3 @@
-use Rattle.std.proofs.Common.{rules}
 use Rattle.pipeline.proofs.pending.mark_or_not.Goals as goal
 
 pub returns-then-yes : goal.returns-then-yes

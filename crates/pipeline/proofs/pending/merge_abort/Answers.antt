@@ -1,5 +1,4 @@
-use Rattle.std.proofs.Common.{sym, ◌∙◌, rules}
-use borrow.Author.Tests.{not-true, not-false}
+use Rattle.std.proofs.Common.{sym, ◌∙◌}
 use Rattle.pipeline.specs.Pending.{merge_abort}
 use Rattle.pipeline.proofs.pending.merge_abort.Goals as goal
 

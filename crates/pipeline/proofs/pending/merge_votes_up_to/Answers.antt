@@ -1,5 +1,4 @@
 use Rattle.pipeline.specs.Pending.{merge_votes}
-use Rattle.std.proofs.Common.{rules}
 use Rattle.pipeline.proofs.pending.merge_votes_up_to.Goals as goal
 
 pub returns : goal.returns

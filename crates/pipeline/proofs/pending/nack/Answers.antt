@@ -1,4 +1,4 @@
-use Rattle.std.proofs.Common.{rules, eq-eqb, ne_eqb}
+use Rattle.std.proofs.Common.{eq-eqb, ne_eqb}
 use Rattle.pipeline.specs.Pending.{nack_of}
 use Rattle.pipeline.proofs.pending.nack.Goals as goal
 

@@ -1,4 +1,4 @@
-use Rattle.std.proofs.Common.{rules, le-ltb, lt-ltb}
+use Rattle.std.proofs.Common.{le-ltb, lt-ltb}
 use Rattle.pipeline.specs.Pending.{open_tx}
 use Rattle.pipeline.proofs.pending.open_tx.Goals as goal
 

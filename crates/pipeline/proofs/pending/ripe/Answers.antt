@@ -1,6 +1,5 @@
-use Rattle.std.proofs.Common.{◌≡◌, ℕ, ◌-◌, ◌^◌, ◌<◌, ◌≤◌, ◌&&◌, ltb, get_or, arith, rules}
+use Rattle.std.proofs.Common.{get_or, arith}
 use Rattle.marks.specs.Sets.{grown_all, grown_none, grown_turn}
-use Rattle.marks.specs.Marks.{has}
 use Rattle.pipeline.specs.Pending.{is_judged, ripe_of}
 use Rattle.pipeline.proofs.pending.ripe.Goals as goal
 
@@ -8,12 +7,11 @@ pub loop-t-init : goal.loop-t-init
 loop-t-init c = (omega arith, λ k. grown_none (λ t. is_judged c.args.n c.args.r (get_or c.args.rounds.now t 0)) k, omega arith)
 
 pub loop-t-preserved : goal.loop-t-preserved
-loop-t-preserved c =
-    (
-      omega arith,
-      λ k. grown_turn (λ t. is_judged c.args.n c.args.r (get_or c.args.rounds.now t 0)) _ _ _ k _ (omega arith) (c.loop-t.invariant.1 k) c.is_judged.ensures (c.mark_if-m.ensures k),
-      omega arith,
-    )
+loop-t-preserved c = (
+  omega arith,
+  λ k. grown_turn (λ t. is_judged c.args.n c.args.r (get_or c.args.rounds.now t 0)) _ _ _ k _ (omega arith) (c.loop-t.invariant.1 k) c.is_judged.ensures (c.mark_if-m.ensures k),
+  omega arith,
+)
 
 pub returns : goal.returns
 unfolding ripe_of

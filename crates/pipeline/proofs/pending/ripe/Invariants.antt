@@ -1,7 +1,6 @@
-use Rattle.std.proofs.Common.{◌≡◌, ℕ, ◌-◌, ◌^◌, ◌<◌, ◌≤◌, ◌&&◌, ltb, get_or, arith, rules}
-use Rattle.marks.specs.Sets.{grown_all, grown_none, grown_turn}
+use Rattle.std.proofs.Common.{◌≡◌, ℕ, ◌-◌, ◌^◌, ◌<◌, ◌≤◌, ◌&&◌, ltb, get_or}
 use Rattle.marks.specs.Marks.{has}
-use Rattle.pipeline.specs.Pending.{is_judged, ripe_of}
+use Rattle.pipeline.specs.Pending.{is_judged}
 use Rattle.pipeline.proofs.pending.ripe.Given as goal
 
 abbrev pub invariant-loop-t : goal.invariant-loop-t

@@ -1,4 +1,4 @@
-use Rattle.std.proofs.Common.{sym, ◌∙◌, rules}
+use Rattle.std.proofs.Common.{sym, ◌∙◌}
 use Rattle.pipeline.specs.Pending.{vote_of}
 use Rattle.pipeline.proofs.pending.vote.Goals as goal
 

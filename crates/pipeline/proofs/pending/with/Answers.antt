@@ -1,4 +1,4 @@
-use Rattle.std.proofs.Common.{arith, rules}
+use Rattle.std.proofs.Common.{arith}
 use Rattle.engines.proofs.Marking.{with_is}
 use Rattle.pipeline.proofs.pending.with.Goals as goal
 

@@ -1,4 +1,4 @@
-use Rattle.std.proofs.Common.{arith, rules}
+use Rattle.std.proofs.Common.{arith}
 use Rattle.pipeline.proofs.Joining.{without_is}
 use Rattle.pipeline.proofs.pending.without.Goals as goal
 

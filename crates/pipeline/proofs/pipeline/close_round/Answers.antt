@@ -1,5 +1,4 @@
 use Rattle.pipeline.proofs.Rounding.{close_is}
-use Rattle.std.proofs.Common.{rules}
 use Rattle.pipeline.proofs.pipeline.close_round.Goals as goal
 
 pub returns : goal.returns

@@ -1,5 +1,5 @@
-use Rattle.std.proofs.Common.{◌≡◌, ◌-◌, ◌≤◌, rules}
-use Rattle.loops.specs.Upto.{upto, upto_none, upto_turn, upto_all}
+use Rattle.std.proofs.Common.{rules}
+use Rattle.loops.specs.Upto.{upto_none, upto_turn, upto_all}
 use Rattle.pipeline.specs.Round.{is_covered, cover_at, covered_of}
 use Rattle.pipeline.proofs.pipeline.count_covered.Goals as goal
 

@@ -1,6 +1,6 @@
-use Rattle.std.proofs.Common.{◌≡◌, ◌-◌, ◌≤◌, rules}
-use Rattle.loops.specs.Upto.{upto, upto_none, upto_turn, upto_all}
-use Rattle.pipeline.specs.Round.{is_covered, cover_at, covered_of}
+use Rattle.std.proofs.Common.{◌≡◌, ◌-◌, ◌≤◌}
+use Rattle.loops.specs.Upto.{upto}
+use Rattle.pipeline.specs.Round.{cover_at}
 use Rattle.pipeline.proofs.pipeline.count_covered.Given as goal
 
 abbrev pub invariant-loop-i : goal.invariant-loop-i

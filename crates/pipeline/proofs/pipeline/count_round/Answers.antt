@@ -1,4 +1,3 @@
-use Rattle.std.proofs.Common.{rules}
 use Rattle.pipeline.proofs.pipeline.count_round.Goals as goal
 
 pub returns : goal.returns

@@ -1,9 +1,7 @@
-use Rattle.std.proofs.Common.{◌≡◌, ◌-◌, ◌^◌, ◌<◌, refl, arith, rules}
+use Rattle.std.proofs.Common.{◌≡◌, ◌^◌, ◌<◌}
 use Rattle.marks.specs.Marks.{count_of}
-use Rattle.marks.specs.Sets.{lowest_lt}
 use Rattle.engines.specs.Marked.{over_marks}
-use Rattle.engines.proofs.Marking.{without, over_less, over_turn, over_none}
-use Rattle.pipeline.specs.Round.{deliver_at, deliver_all}
+use Rattle.pipeline.specs.Round.{deliver_at}
 use Rattle.pipeline.proofs.pipeline.deliver_all.Given as goal
 
 abbrev pub invariant-loop-left : goal.invariant-loop-left

@@ -1,5 +1,4 @@
 use Rattle.pipeline.specs.Round.{flood_from}
-use Rattle.std.proofs.Common.{rules}
 use Rattle.pipeline.proofs.pipeline.flood_from.Goals as goal
 
 pub returns : goal.returns

@@ -1,4 +1,4 @@
-use Rattle.std.proofs.Common.{refl, mod-lt, arith, rules}
+use Rattle.std.proofs.Common.{refl, mod-lt, arith}
 use Rattle.pipeline.proofs.pipeline.initiator.Goals as goal
 
 pub returns : goal.returns

@@ -1,5 +1,3 @@
-use borrow.Author.Tests.{not-true, not-false}
-use Rattle.std.proofs.Common.{rules}
 use Rattle.pipeline.proofs.pipeline.is_covered.Goals as goal
 
 pub returns-then-not-holds : goal.returns-then-not-holds

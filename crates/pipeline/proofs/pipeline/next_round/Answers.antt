@@ -1,4 +1,3 @@
-use Rattle.std.proofs.Common.{rules}
 use Rattle.pipeline.proofs.pipeline.next_round.Goals as goal
 
 pub returns-then-stop : goal.returns-then-stop

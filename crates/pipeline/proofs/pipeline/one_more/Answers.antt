@@ -1,4 +1,3 @@
-use Rattle.std.proofs.Common.{rules}
 use Rattle.pipeline.proofs.pipeline.one_more.Goals as goal
 
 pub returns-then-yes : goal.returns-then-yes

@@ -1,5 +1,4 @@
 use Rattle.pipeline.specs.Round.{bytes_of}
-use Rattle.std.proofs.Common.{rules}
 use Rattle.pipeline.proofs.pipeline.packet_bytes.Goals as goal
 
 pub returns : goal.returns

@@ -1,4 +1,4 @@
-use Rattle.std.proofs.Common.{sym, ◌∙◌, arith, rules}
+use Rattle.std.proofs.Common.{sym, ◌∙◌, arith}
 use Rattle.pipeline.proofs.Rounding.{early_size, refused_early, refused_late, fits_all, due_all, accepted}
 use Rattle.pipeline.proofs.pipeline.pipeline_round.Goals as goal
 
@@ -17,10 +17,13 @@ returns-then-late-ne0 c =
 
 pub write_due-requires : goal.write_due-requires
 write_due-requires c =
-    record { n_nonzero = early_size _ _ _ (sym c.early_refusal-early.ensures ∙ c.if-early-ne0.false); row_cells_value = (
+    record {
+      n_nonzero = early_size _ _ _ (sym c.early_refusal-early.ensures ∙ c.if-early-ne0.false);
+      row_cells_value = (
         due_all c.args.words.now c.args.rows.now c.args.used c.args.conf c.args.w c.args.p c.args.cursor c.early_refusal-early.ensures c.if-early-ne0.false c.run_round-x.ensures c.late_refusal-late.ensures c.if-late-ne0.false,
         (fits_all c.args.words.now c.args.rows.now c.args.used c.args.conf c.args.w c.args.p c.args.cursor c.early_refusal-early.ensures c.if-early-ne0.false c.run_round-x.ensures c.late_refusal-late.ensures c.if-late-ne0.false).1,
-      ) }
+      );
+    }
 
 pub overflow_add-result : goal.overflow_add-result
 overflow_add-result c = omega (arith, (fits_all c.args.words.now c.args.rows.now c.args.used c.args.conf c.args.w c.args.p c.args.cursor c.early_refusal-early.ensures c.if-early-ne0.false c.run_round-x.ensures c.late_refusal-late.ensures c.if-late-ne0.false).1, c.well_formed)

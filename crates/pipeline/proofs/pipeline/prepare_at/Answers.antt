@@ -1,5 +1,4 @@
 use Rattle.pipeline.specs.Round.{preparing}
-use Rattle.std.proofs.Common.{rules}
 use Rattle.pipeline.proofs.pipeline.prepare_at.Goals as goal
 
 pub returns : goal.returns

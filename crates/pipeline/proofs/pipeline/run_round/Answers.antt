@@ -1,4 +1,4 @@
-use Rattle.std.proofs.Common.{arith, rules}
+use Rattle.std.proofs.Common.{arith}
 use Rattle.pipeline.proofs.Rounding.{run_whole, run_short}
 use Rattle.pipeline.specs.Round.{initiator_of}
 use Rattle.pipeline.proofs.pipeline.run_round.Goals as goal

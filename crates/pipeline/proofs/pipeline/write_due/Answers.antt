@@ -1,4 +1,4 @@
-use Rattle.std.proofs.Common.{◌*◌, arith, rules}
+use Rattle.std.proofs.Common.{◌*◌, arith}
 use Rattle.engines.proofs.Rounds.{no_rows}
 use Rattle.pipeline.proofs.Rounding.{part_whole}
 use Rattle.pipeline.specs.Round.{rows_of_round}

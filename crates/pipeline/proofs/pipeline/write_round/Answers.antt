@@ -1,4 +1,4 @@
-use Rattle.std.proofs.Common.{ap, ◌∙◌, arith, rules}
+use Rattle.std.proofs.Common.{ap, ◌∙◌, arith}
 use Rattle.engines.specs.Rounds.{placed}
 use Rattle.pipeline.proofs.Rounding.{rows_same}
 use Rattle.pipeline.specs.Round.{initiator_of}

@@ -1,4 +1,4 @@
-use Rattle.std.proofs.Common.{rules, le-ltb, lt-ltb}
+use Rattle.std.proofs.Common.{le-ltb, lt-ltb}
 use Rattle.pipeline.specs.Pipeline.{is_fresh, begin_tx}
 use Rattle.pipeline.proofs.prepare.begin_tx.Goals as goal
 

@@ -1,5 +1,4 @@
-use Rattle.std.proofs.Common.{sym, ◌∙◌, rules}
-use borrow.Author.Tests.{not-true, not-false}
+use Rattle.std.proofs.Common.{sym, ◌∙◌}
 use Rattle.pipeline.specs.Pipeline.{abort_of}
 use Rattle.pipeline.proofs.prepare.has_abort.Goals as goal
 

@@ -1,5 +1,4 @@
-use Rattle.std.proofs.Common.{sym, ◌∙◌, arith, rules}
-use borrow.Author.Tests.{not-true, not-false}
+use Rattle.std.proofs.Common.{sym, ◌∙◌, arith}
 use Rattle.marks.specs.Laws.{has_out}
 use Rattle.pipeline.specs.Pipeline.{known_votes}
 use Rattle.pipeline.proofs.prepare.known_votes.Goals as goal

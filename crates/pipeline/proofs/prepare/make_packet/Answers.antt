@@ -1,5 +1,4 @@
 use Rattle.pipeline.specs.Pipeline.{round_packet}
-use Rattle.std.proofs.Common.{rules}
 use Rattle.pipeline.proofs.prepare.make_packet.Goals as goal
 
 pub returns : goal.returns

@@ -1,4 +1,3 @@
-use Rattle.std.proofs.Common.{rules}
 use Rattle.pipeline.proofs.prepare.new_tx.Goals as goal
 
 pub returns : goal.returns

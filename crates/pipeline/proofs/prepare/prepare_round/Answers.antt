@@ -1,5 +1,4 @@
 use Rattle.pipeline.specs.Pipeline.{prepare_round}
-use Rattle.std.proofs.Common.{rules}
 use Rattle.pipeline.proofs.prepare.prepare_round.Goals as goal
 
 pub returns : goal.returns

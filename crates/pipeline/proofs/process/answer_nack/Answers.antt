@@ -1,5 +1,4 @@
-use Rattle.std.proofs.Common.{sym, ◌∙◌, rules}
-use borrow.Author.Tests.{not-true, not-false}
+use Rattle.std.proofs.Common.{sym, ◌∙◌}
 use Rattle.pipeline.specs.Pipeline.{answer_nack}
 use Rattle.pipeline.proofs.process.answer_nack.Goals as goal
 

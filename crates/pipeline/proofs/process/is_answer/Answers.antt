@@ -1,4 +1,4 @@
-use Rattle.std.proofs.Common.{rules, ne_eqb}
+use Rattle.std.proofs.Common.{ne_eqb}
 use Rattle.pipeline.specs.Pipeline.{is_answer}
 use Rattle.pipeline.proofs.process.is_answer.Goals as goal
 

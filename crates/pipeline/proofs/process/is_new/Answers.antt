@@ -1,4 +1,4 @@
-use Rattle.std.proofs.Common.{sym, ◌∙◌, rules}
+use Rattle.std.proofs.Common.{sym, ◌∙◌}
 use borrow.Author.Tests.{not-true, not-false}
 use Rattle.pipeline.specs.Pipeline.{is_new}
 use Rattle.pipeline.proofs.process.is_new.Goals as goal

@@ -1,5 +1,4 @@
 use Rattle.pipeline.specs.Pipeline.{merge_round}
-use Rattle.std.proofs.Common.{rules}
 use Rattle.pipeline.proofs.process.merge_round.Goals as goal
 
 pub returns : goal.returns

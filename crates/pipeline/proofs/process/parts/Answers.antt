@@ -1,4 +1,4 @@
-use Rattle.std.proofs.Common.{arith, rules}
+use Rattle.std.proofs.Common.{arith}
 use Rattle.pipeline.proofs.Taking.{parts_is}
 use Rattle.pipeline.proofs.process.parts.Goals as goal
 

@@ -1,7 +1,5 @@
-use Rattle.std.proofs.Common.{◌≡◌, ◌-◌, ◌^◌, ◌<◌, refl, arith, rules}
-use Rattle.marks.specs.Marks.{count_of}
+use Rattle.std.proofs.Common.{refl, arith}
 use Rattle.marks.specs.Sets.{lowest_lt}
-use Rattle.engines.specs.Marked.{over_marks}
 use Rattle.engines.proofs.Marking.{without, over_less, over_turn, over_none}
 use Rattle.pipeline.specs.Pipeline.{process_at, process_all}
 use Rattle.pipeline.proofs.process.process_all.Goals as goal

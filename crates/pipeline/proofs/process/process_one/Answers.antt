@@ -1,5 +1,4 @@
 use Rattle.pipeline.specs.Pipeline.{process_one}
-use Rattle.std.proofs.Common.{rules}
 use Rattle.pipeline.proofs.process.process_one.Goals as goal
 
 pub returns : goal.returns

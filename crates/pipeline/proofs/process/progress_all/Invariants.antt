@@ -1,6 +1,6 @@
-use Rattle.std.proofs.Common.{◌≡◌, ◌-◌, ◌≤◌, rules}
-use Rattle.loops.specs.Upto.{upto, upto_none, upto_turn, upto_all}
-use Rattle.pipeline.specs.Pipeline.{progress_at, progress_all}
+use Rattle.std.proofs.Common.{◌≡◌, ◌-◌, ◌≤◌}
+use Rattle.loops.specs.Upto.{upto}
+use Rattle.pipeline.specs.Pipeline.{progress_at}
 use Rattle.pipeline.proofs.process.progress_all.Given as goal
 
 abbrev pub invariant-loop-i : goal.invariant-loop-i

@@ -1,8 +1,7 @@
-use Rattle.std.proofs.Common.{◌≡◌, ◌-◌, ◌^◌, ◌<◌, refl, arith, rules}
+use Rattle.std.proofs.Common.{◌≡◌, ◌^◌, ◌<◌}
 use Rattle.marks.specs.Marks.{count_of}
 use Rattle.engines.specs.Marked.{over_marks}
-use Rattle.engines.proofs.Marking.{without, over_less, over_turn, over_none}
-use Rattle.pipeline.specs.Pipeline.{record_abort, record_aborts}
+use Rattle.pipeline.specs.Pipeline.{record_abort}
 use Rattle.pipeline.proofs.process.record_aborts.Given as goal
 
 abbrev pub invariant-loop-left : goal.invariant-loop-left

@@ -1,5 +1,5 @@
-use Rattle.std.proofs.Common.{◌≡◌, ◌-◌, ◌≤◌, rules}
-use Rattle.loops.specs.Upto.{upto, upto_none, upto_turn, upto_all}
+use Rattle.std.proofs.Common.{rules}
+use Rattle.loops.specs.Upto.{upto_none, upto_turn, upto_all}
 use Rattle.pipeline.specs.Pipeline.{shorter_at, shortest_log}
 use Rattle.pipeline.proofs.process.shortest_log.Goals as goal
 

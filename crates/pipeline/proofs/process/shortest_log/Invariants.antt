@@ -1,6 +1,6 @@
-use Rattle.std.proofs.Common.{◌≡◌, ◌-◌, ◌≤◌, rules}
-use Rattle.loops.specs.Upto.{upto, upto_none, upto_turn, upto_all}
-use Rattle.pipeline.specs.Pipeline.{shorter_at, shortest_log}
+use Rattle.std.proofs.Common.{◌≡◌, ◌-◌, ◌≤◌}
+use Rattle.loops.specs.Upto.{upto}
+use Rattle.pipeline.specs.Pipeline.{shorter_at}
 use Rattle.pipeline.proofs.process.shortest_log.Given as goal
 
 abbrev pub invariant-loop-i : goal.invariant-loop-i

@@ -1,4 +1,4 @@
-use Rattle.std.proofs.Common.{◌+◌, sym, ◌∙◌, arith, rules, le-ltb, lt-ltb}
+use Rattle.std.proofs.Common.{◌+◌, sym, ◌∙◌, arith, le-ltb, lt-ltb}
 use Rattle.pipeline.specs.Pipeline.{stops_at}
 use Rattle.pipeline.proofs.process.stops.Goals as goal
 

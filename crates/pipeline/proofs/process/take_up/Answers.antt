@@ -1,5 +1,4 @@
 use Rattle.pipeline.specs.Pipeline.{take_up}
-use Rattle.std.proofs.Common.{rules}
 use Rattle.pipeline.proofs.process.take_up.Goals as goal
 
 pub returns-in-Absent : goal.returns-in-Absent

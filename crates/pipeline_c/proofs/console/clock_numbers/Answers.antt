@@ -1,4 +1,4 @@
-use Rattle.std.proofs.Common.{refl, rules}
+use Rattle.std.proofs.Common.{refl}
 use Rattle.pipeline_c.specs.Console.{clock_numbers}
 use Rattle.pipeline_c.proofs.console.clock_numbers.Goals as goal
 

@@ -1,5 +1,4 @@
 use Rattle.pipeline_c.specs.Console.{conf_by}
-use Rattle.std.proofs.Common.{rules}
 use Rattle.pipeline_c.proofs.console.conf_of.Goals as goal
 
 pub returns : goal.returns

@@ -1,4 +1,3 @@
-use Rattle.std.proofs.Common.{rules}
 use Rattle.pipeline_c.proofs.console.entry_number.Goals as goal
 
 pub returns-then-e : goal.returns-then-e

@@ -1,5 +1,4 @@
 use Rattle.pipeline_c.specs.Console.{head_numbers}
-use Rattle.std.proofs.Common.{rules}
 use Rattle.pipeline_c.proofs.console.head_numbers.Goals as goal
 
 pub returns : goal.returns

@@ -1,8 +1,7 @@
 use Rattle.pipeline.specs.Pending.{no_entry}
-use Rattle.std.proofs.Common.{◌≡◌, ◌-◌, ◌≤◌, get_or, ◌∙◌, arith, rules}
-use Rattle.engines_c.proofs.Storing.{filled_whole}
-use Rattle.loops.specs.Table.{filled, filled_none, filled_turn, filled_all}
-use Rattle.pipeline_c.specs.Console.{entry_number, log_numbers}
+use Rattle.std.proofs.Common.{◌≡◌, ◌-◌, ◌≤◌, get_or}
+use Rattle.loops.specs.Table.{filled}
+use Rattle.pipeline_c.specs.Console.{entry_number}
 use Rattle.pipeline_c.proofs.console.log_numbers.Given as goal
 
 abbrev pub invariant-loop-i : goal.invariant-loop-i

@@ -1,7 +1,6 @@
-use Rattle.engines_c.proofs.Storing.{filled_whole}
-use Rattle.loops.specs.Table.{filled, filled_none, filled_turn, filled_all}
-use Rattle.std.proofs.Common.{◌≡◌, ◌+◌, ◌-◌, ◌*◌, ◌≤◌, ◌∙◌, arith, rules}
-use Rattle.pipeline_c.specs.Console.{packet_at, packets_at}
+use Rattle.loops.specs.Table.{filled}
+use Rattle.std.proofs.Common.{◌≡◌, ◌+◌, ◌-◌, ◌*◌, ◌≤◌}
+use Rattle.pipeline_c.specs.Console.{packet_at}
 use Rattle.pipeline_c.proofs.console.packets_of.Given as goal
 
 abbrev pub invariant-loop-i : goal.invariant-loop-i

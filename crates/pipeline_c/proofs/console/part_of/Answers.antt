@@ -1,5 +1,4 @@
 use Rattle.pipeline_c.specs.Console.{part_at}
-use Rattle.std.proofs.Common.{rules}
 use Rattle.pipeline_c.proofs.console.part_of.Goals as goal
 
 pub returns : goal.returns

@@ -1,4 +1,4 @@
-use Rattle.std.proofs.Common.{rules, eq-eqb, ne_eqb}
+use Rattle.std.proofs.Common.{eq-eqb, ne_eqb}
 use Rattle.pipeline_c.proofs.console.piggyback_numbered.Goals as goal
 
 pub returns-then-there-eq0 : goal.returns-then-there-eq0

@@ -1,5 +1,4 @@
 use Rattle.pipeline_c.proofs.Playing.{entered_none, entered_some}
-use Rattle.std.proofs.Common.{rules}
 use Rattle.pipeline_c.proofs.console.pipeline_rounds.Goals as goal
 
 pub returns-then-t-eq0 : goal.returns-then-t-eq0

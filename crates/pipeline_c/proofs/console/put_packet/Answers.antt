@@ -1,4 +1,3 @@
-use Rattle.std.proofs.Common.{rules}
 use Rattle.pipeline_c.proofs.console.put_packet.Goals as goal
 
 pub returns : goal.returns

@@ -1,6 +1,6 @@
 use Rattle.pipeline_c.proofs.Numbering.{packet_to_length}
-use Rattle.std.proofs.Common.{◌≡◌, ◌-◌, ◌≤◌, length, ap, ◌∙◌, arith, rules}
-use Rattle.loops.specs.Upto.{upto, upto_none, upto_turn, upto_all, upto_keeps}
+use Rattle.std.proofs.Common.{length, ap, ◌∙◌, arith}
+use Rattle.loops.specs.Upto.{upto_none, upto_turn, upto_all, upto_keeps}
 use Rattle.pipeline_c.specs.Console.{packet_to, put_packets}
 use Rattle.pipeline_c.proofs.console.put_packets.Goals as goal
 

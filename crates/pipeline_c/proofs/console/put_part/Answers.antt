@@ -1,5 +1,4 @@
 use Rattle.pipeline_c.specs.Console.{put_part}
-use Rattle.std.proofs.Common.{rules}
 use Rattle.pipeline_c.proofs.console.put_part.Goals as goal
 
 pub returns : goal.returns

@@ -1,5 +1,4 @@
 use Rattle.pipeline_c.specs.Console.{put_played}
-use Rattle.std.proofs.Common.{rules}
 use Rattle.pipeline_c.proofs.console.put_played.Goals as goal
 
 pub returns : goal.returns

@@ -1,6 +1,6 @@
 use Rattle.pipeline_c.proofs.Numbering.{state_to_length}
-use Rattle.std.proofs.Common.{◌≡◌, ◌-◌, ◌≤◌, length, ap, ◌∙◌, arith, rules}
-use Rattle.loops.specs.Upto.{upto, upto_none, upto_turn, upto_all, upto_keeps}
+use Rattle.std.proofs.Common.{length, ap, ◌∙◌, arith}
+use Rattle.loops.specs.Upto.{upto_none, upto_turn, upto_all, upto_keeps}
 use Rattle.pipeline_c.specs.Console.{state_to, put_states}
 use Rattle.pipeline_c.proofs.console.put_states.Goals as goal
 

@@ -1,5 +1,4 @@
 use Rattle.pipeline_c.specs.Console.{put_txs}
-use Rattle.std.proofs.Common.{rules}
 use Rattle.pipeline_c.proofs.console.put_txs.Goals as goal
 
 pub returns : goal.returns

@@ -1,5 +1,4 @@
 use Rattle.pipeline_c.specs.Console.{state_at}
-use Rattle.std.proofs.Common.{rules}
 use Rattle.pipeline_c.proofs.console.state_of.Goals as goal
 
 pub returns : goal.returns

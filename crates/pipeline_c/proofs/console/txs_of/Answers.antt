@@ -1,5 +1,4 @@
 use Rattle.pipeline_c.specs.Console.{txs_at}
-use Rattle.std.proofs.Common.{rules}
 use Rattle.pipeline_c.proofs.console.txs_of.Goals as goal
 
 pub returns : goal.returns

@@ -1,6 +1,6 @@
-use Rattle.std.proofs.Common.{◌≡◌, ◌+◌, ◌-◌, ◌≤◌, get_or, ◌∙◌, arith, rules}
+use Rattle.std.proofs.Common.{◌∙◌, arith}
 use Rattle.engines_c.proofs.Storing.{filled_whole}
-use Rattle.loops.specs.Table.{filled, filled_none, filled_turn, filled_all}
+use Rattle.loops.specs.Table.{filled_none, filled_turn, filled_all}
 use Rattle.pipeline_c.specs.Console.{words_at}
 use Rattle.pipeline_c.proofs.console.words_of.Goals as goal
 

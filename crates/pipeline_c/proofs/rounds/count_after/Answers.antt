@@ -1,4 +1,4 @@
-use Rattle.std.proofs.Common.{rules, eq-eqb, ne_eqb}
+use Rattle.std.proofs.Common.{eq-eqb, ne_eqb}
 use Rattle.pipeline_c.specs.Play.{count_after}
 use Rattle.pipeline_c.proofs.rounds.count_after.Goals as goal
 

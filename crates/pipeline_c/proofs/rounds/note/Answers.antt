@@ -1,4 +1,3 @@
-use Rattle.std.proofs.Common.{rules}
 use Rattle.pipeline_c.specs.Play.{noted}
 use Rattle.pipeline_c.proofs.rounds.note.Goals as goal
 

@@ -1,4 +1,3 @@
-use Rattle.std.proofs.Common.{rules}
 use Rattle.pipeline_c.specs.Play.{play_round}
 use Rattle.pipeline_c.proofs.rounds.play_round.Goals as goal
 

@@ -1,6 +1,6 @@
-use Rattle.std.proofs.Common.{◌≡◌, length, refl, rules}
-use Rattle.loops.specs.Runs.{runs, runs_none, runs_stop, runs_turn}
-use Rattle.pipeline_c.specs.Play.{is_refused, play_round, play_rounds}
+use Rattle.std.proofs.Common.{refl, rules}
+use Rattle.loops.specs.Runs.{runs_none, runs_stop, runs_turn}
+use Rattle.pipeline_c.specs.Play.{play_rounds}
 use Rattle.pipeline_c.proofs.Playing.{refused_yes, refused_no}
 use Rattle.pipeline_c.proofs.rounds.play_rounds.Goals as goal
 

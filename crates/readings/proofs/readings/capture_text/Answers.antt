@@ -1,5 +1,4 @@
 use Rattle.readings.specs.Readings.{ce_answer_by, ce_left_by}
-use borrow.Author.Rules.{rules}
 use Rattle.readings.proofs.readings.capture_text.Goals as goal
 
 pub returns-in-Empty : goal.returns-in-Empty

@@ -1,6 +1,5 @@
 use borrow.Author.Tests.{lt-ltb, le-ltb}
 use Rattle.readings.specs.Readings.{entry_of}
-use borrow.Author.Rules.{rules}
 use Rattle.readings.proofs.readings.entry.Goals as goal
 
 pub returns-then-g-k : goal.returns-then-g-k

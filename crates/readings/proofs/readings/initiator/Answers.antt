@@ -1,7 +1,6 @@
 use Rattle.readings.specs.Readings.{initiator_now}
 use native.Mathlib.Omega.{arith}
 use Rattle.graph.proofs.Answers.{size_none, size_many, size_ok}
-use borrow.Author.Rules.{rules}
 use Rattle.readings.proofs.readings.initiator.Goals as goal
 
 pub returns-then-n-eq0 : goal.returns-then-n-eq0

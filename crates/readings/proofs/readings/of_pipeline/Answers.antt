@@ -1,4 +1,3 @@
-use borrow.Author.Rules.{rules}
 use Rattle.readings.proofs.readings.of_pipeline.Goals as goal
 
 pub returns : goal.returns

@@ -3,7 +3,6 @@ use Rattle.room.proofs.Answers.{first_none}
 use mathlib.Core.Path.{sym, ◌∙◌}
 use borrow.Author.Tests.{eq-eqb, ne_eqb}
 use Rattle.readings.specs.Readings.{pending_of}
-use borrow.Author.Rules.{rules}
 use Rattle.readings.proofs.readings.pending.Goals as goal
 
 pub returns-then-refusal-ne0 : goal.returns-then-refusal-ne0

@@ -1,6 +1,4 @@
-use borrow.Author.Tests.{not-true, not-false}
 use Rattle.readings.specs.Readings.{pipe_answer_of, pipe_left}
-use borrow.Author.Rules.{rules}
 use Rattle.readings.proofs.readings.pipeline_text.Goals as goal
 
 pub returns-then-not-holds : goal.returns-then-not-holds

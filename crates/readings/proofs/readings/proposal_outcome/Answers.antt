@@ -1,6 +1,5 @@
 use borrow.Author.Tests.{eq-eqb, ne_eqb}
 use Rattle.readings.specs.Readings.{outcome_read}
-use borrow.Author.Rules.{rules}
 use Rattle.readings.proofs.readings.proposal_outcome.Goals as goal
 
 pub returns-then-refusal-ne0 : goal.returns-then-refusal-ne0

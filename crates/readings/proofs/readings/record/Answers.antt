@@ -1,5 +1,4 @@
 use Rattle.readings.specs.Readings.{record_by}
-use borrow.Author.Rules.{rules}
 use Rattle.readings.proofs.readings.record.Goals as goal
 
 pub returns-in-Pipeline : goal.returns-in-Pipeline

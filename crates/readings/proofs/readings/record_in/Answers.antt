@@ -1,5 +1,4 @@
 use Rattle.readings.specs.Readings.{record_in}
-use borrow.Author.Rules.{rules}
 use Rattle.readings.proofs.readings.record_in.Goals as goal
 
 pub returns : goal.returns

@@ -1,4 +1,3 @@
-use borrow.Author.Rules.{rules}
 use Rattle.readings.proofs.readings.stopped.Goals as goal
 
 pub returns : goal.returns

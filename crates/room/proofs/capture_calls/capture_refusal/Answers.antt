@@ -1,5 +1,4 @@
-use Rattle.std.proofs.Common.{sym, ◌∙◌, rules}
-use borrow.Author.Tests.{not-true, not-false}
+use Rattle.std.proofs.Common.{sym, ◌∙◌}
 use Rattle.room.specs.Capturing.{capture_refusal}
 use Rattle.room.proofs.capture_calls.capture_refusal.Goals as goal
 

@@ -1,4 +1,4 @@
-use Rattle.std.proofs.Common.{rules, eq-eqb, ne_eqb}
+use Rattle.std.proofs.Common.{eq-eqb, ne_eqb}
 use Rattle.room.specs.Capturing.{capture_part, capture_rows}
 use Rattle.room.proofs.capture_calls.capture_round.Goals as goal
 

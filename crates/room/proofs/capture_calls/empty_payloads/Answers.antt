@@ -1,4 +1,3 @@
-use Rattle.std.proofs.Common.{rules}
 use Rattle.room.proofs.capture_calls.empty_payloads.Goals as goal
 
 pub returns : goal.returns

@@ -1,4 +1,3 @@
-use Rattle.std.proofs.Common.{rules}
 use Rattle.room.proofs.capture_calls.keep.Goals as goal
 
 pub returns : goal.returns

@@ -1,4 +1,4 @@
-use Rattle.std.proofs.Common.{sym, ◌∙◌, rules, eq-eqb, ne_eqb}
+use Rattle.std.proofs.Common.{sym, ◌∙◌, eq-eqb, ne_eqb}
 use Rattle.room.proofs.Answers.{position_below}
 use Rattle.room.specs.Capturing.{propose_part}
 use Rattle.room.proofs.capture_calls.propose.Goals as goal

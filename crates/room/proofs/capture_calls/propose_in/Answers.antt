@@ -1,4 +1,3 @@
-use Rattle.std.proofs.Common.{rules}
 use Rattle.room.specs.Capturing.{proposed_in}
 use Rattle.room.proofs.capture_calls.propose_in.Goals as goal
 

@@ -1,5 +1,5 @@
-use Rattle.std.proofs.Common.{sym, ◌∙◌, rules, eq-eqb, ne_eqb, le-leb}
-use borrow.Author.Tests.{lt-leb, not-true, not-false}
+use Rattle.std.proofs.Common.{sym, ◌∙◌, eq-eqb, ne_eqb, le-leb}
+use borrow.Author.Tests.{lt-leb}
 use Rattle.room.specs.Capturing.{propose_refusal}
 use Rattle.room.proofs.capture_calls.propose_refusal.Goals as goal
 

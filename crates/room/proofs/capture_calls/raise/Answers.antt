@@ -1,4 +1,3 @@
-use Rattle.std.proofs.Common.{rules}
 use Rattle.room.specs.Capturing.{raised}
 use Rattle.room.proofs.capture_calls.raise.Goals as goal
 

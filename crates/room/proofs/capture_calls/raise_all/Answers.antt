@@ -1,6 +1,6 @@
-use Rattle.std.proofs.Common.{◌≡◌, ◌-◌, ◌≤◌, rules}
-use Rattle.loops.specs.Upto.{upto, upto_none, upto_turn, upto_all}
-use Rattle.room.specs.Capturing.{raise_at, raised_all}
+use Rattle.std.proofs.Common.{rules}
+use Rattle.loops.specs.Upto.{upto_none, upto_turn, upto_all}
+use Rattle.room.specs.Capturing.{raised_all}
 use Rattle.room.proofs.capture_calls.raise_all.Goals as goal
 
 pub loop-i-init : goal.loop-i-init

@@ -1,5 +1,4 @@
 use borrow.Author.Tests.{not-true, not-false}
-use Rattle.std.proofs.Common.{rules}
 use Rattle.room.specs.Capturing.{network_after}
 use Rattle.room.proofs.capture_calls.settle.Goals as goal
 

@@ -1,4 +1,4 @@
-use Rattle.std.proofs.Common.{rules, eq-eqb, ne_eqb}
+use Rattle.std.proofs.Common.{eq-eqb, ne_eqb}
 use Rattle.room.specs.Capturing.{captured_by}
 use Rattle.room.proofs.capture_calls.settled_by.Goals as goal
 

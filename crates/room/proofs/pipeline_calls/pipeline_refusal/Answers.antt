@@ -1,5 +1,4 @@
-use Rattle.std.proofs.Common.{sym, ◌∙◌, rules}
-use borrow.Author.Tests.{not-true, not-false}
+use Rattle.std.proofs.Common.{sym, ◌∙◌}
 use Rattle.room.specs.Pipelining.{pipeline_refusal}
 use Rattle.room.proofs.pipeline_calls.pipeline_refusal.Goals as goal
 

@@ -1,4 +1,4 @@
-use Rattle.std.proofs.Common.{rules, eq-eqb, ne_eqb}
+use Rattle.std.proofs.Common.{eq-eqb, ne_eqb}
 use Rattle.room.specs.Pipelining.{pipeline_part, pipeline_rows}
 use Rattle.room.proofs.pipeline_calls.pipeline_round.Goals as goal
 

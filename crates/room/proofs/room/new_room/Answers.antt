@@ -1,4 +1,3 @@
-use Rattle.std.proofs.Common.{rules}
 use Rattle.room.specs.Rooms.{new_room}
 use Rattle.room.proofs.room.new_room.Goals as goal
 

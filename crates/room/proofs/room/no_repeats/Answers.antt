@@ -1,5 +1,3 @@
-use borrow.Author.Tests.{not-true, not-false}
-use Rattle.std.proofs.Common.{rules}
 use Rattle.room.proofs.room.no_repeats.Goals as goal
 
 pub returns-then-not-is_pipeline : goal.returns-then-not-is_pipeline

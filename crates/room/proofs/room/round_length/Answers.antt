@@ -1,4 +1,3 @@
-use Rattle.std.proofs.Common.{rules}
 use Rattle.room.specs.Rooms.{round_length}
 use Rattle.room.proofs.room.round_length.Goals as goal
 

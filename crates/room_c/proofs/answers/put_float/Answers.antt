@@ -1,6 +1,5 @@
 use mathlib.Core.Path.{sym}
 use lib.Seq.{set_out}
-use borrow.Author.Rules.{rules}
 use Rattle.room_c.proofs.answers.put_float.Goals as goal
 
 pub returns-then-floats-at : goal.returns-then-floats-at

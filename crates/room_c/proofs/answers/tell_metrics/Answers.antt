@@ -3,7 +3,6 @@ use mathlib.Core.Path.{sym, ◌∙◌}
 use native.Mathlib.Numerals.{add-one}
 use Rattle.engines_c.specs.Numbers.{metrics_numbers}
 use Rattle.engines_c.proofs.Storing.{sets_out}
-use borrow.Author.Rules.{rules}
 use Rattle.room_c.proofs.answers.tell_metrics.Goals as goal
 
 pub returns-then-told-at : goal.returns-then-told-at

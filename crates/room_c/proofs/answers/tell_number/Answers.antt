@@ -1,5 +1,4 @@
 use Rattle.room_c.specs.Answers.{said}
-use borrow.Author.Rules.{rules}
 use Rattle.room_c.proofs.answers.tell_number.Goals as goal
 
 pub returns : goal.returns

@@ -1,6 +1,5 @@
 use mathlib.Core.Path.{◌∙◌}
 use Rattle.room_c.specs.Answers.{said}
-use borrow.Author.Rules.{rules}
 use Rattle.room_c.proofs.answers.tell_outcome.Goals as goal
 
 pub returns : goal.returns

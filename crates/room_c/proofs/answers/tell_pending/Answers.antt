@@ -3,7 +3,6 @@ use mathlib.Core.Path.{◌≡◌, ◌∙◌}
 use native.Mathlib.Nat.{add-zero}
 use native.Mathlib.Omega.{arith}
 use Rattle.room_c.specs.Answers.{said}
-use borrow.Author.Rules.{rules}
 use Rattle.room_c.proofs.answers.tell_pending.Goals as goal
 
 pub returns : goal.returns

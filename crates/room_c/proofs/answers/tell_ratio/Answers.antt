@@ -1,6 +1,5 @@
 use mathlib.Core.Path.{refl}
 use Rattle.room_c.specs.Answers.{said}
-use borrow.Author.Rules.{rules}
 use Rattle.room_c.proofs.answers.tell_ratio.Goals as goal
 
 pub returns-in-None : goal.returns-in-None

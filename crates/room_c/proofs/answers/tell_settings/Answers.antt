@@ -1,7 +1,6 @@
 use mathlib.Core.Path.{◌∙◌}
 use native.Mathlib.Nat.{add-zero}
 use Rattle.room_c.specs.Answers.{said}
-use borrow.Author.Rules.{rules}
 use Rattle.room_c.proofs.answers.tell_settings.Goals as goal
 
 pub returns : goal.returns

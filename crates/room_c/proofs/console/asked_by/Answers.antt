@@ -1,5 +1,4 @@
 use Rattle.room_c.specs.Console.{asked_by}
-use borrow.Author.Rules.{rules}
 use Rattle.room_c.proofs.console.asked_by.Goals as goal
 
 pub returns : goal.returns

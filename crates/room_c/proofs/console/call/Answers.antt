@@ -1,7 +1,6 @@
-use mathlib.Core.Logic.{inl, inr, ⊎_elim}
+use mathlib.Core.Logic.{inl, inr}
 use native.Mathlib.Omega.{arith}
 use Rattle.room_c.proofs.Making.{proposed, captured, piped, whole_read, part_read, none_made}
-use borrow.Author.Rules.{rules}
 use Rattle.room_c.proofs.console.call.Goals as goal
 use Rattle.room_c.proofs.console.call.Goals.{in_default-via-then-which-lt1, in_default-via-else-which-lt1+else-which-lt18+else-which-lt24}
 
@@ -24,7 +23,7 @@ pub returns-in_default : goal.returns-in_default
 returns-in_default c =
     none_made _ _ _ _ _ _ _
     (elim c.in_default.branch [
-      in_default-via-then-which-lt1 w ↦ inl (omega arith)
-    | in_default-via-else-which-lt1+else-which-lt18+else-which-lt24 w ↦ inr (omega arith)
+      | in_default-via-then-which-lt1 w ↦ inl (omega arith)
+      | in_default-via-else-which-lt1+else-which-lt18+else-which-lt24 w ↦ inr (omega arith)
     ])
     c.put.ensures

@@ -1,5 +1,4 @@
 use Rattle.room_c.specs.Console.{call_at}
-use borrow.Author.Rules.{rules}
 use Rattle.room_c.proofs.console.call_at.Goals as goal
 
 pub returns : goal.returns

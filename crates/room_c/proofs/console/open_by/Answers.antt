@@ -1,6 +1,5 @@
 use borrow.Author.Tests.{eq-eqb, ne_eqb}
 use Rattle.room_c.specs.Console.{opening_by}
-use borrow.Author.Rules.{rules}
 use Rattle.room_c.proofs.console.open_by.Goals as goal
 
 pub returns-then-b-eq0 : goal.returns-then-b-eq0

@@ -1,10 +1,7 @@
-use mathlib.Core.Path.{◌≡◌, refl, ◌∙◌}
-use Prim.Native.Nat.{◌≤◌, ◌-◌}
+use mathlib.Core.Path.{refl, ◌∙◌}
 use native.Mathlib.Omega.{arith}
-use lib.ListN.{length}
-use Rattle.loops.specs.Upto.{upto, upto_none, upto_turn, upto_all}
-use Rattle.room_c.specs.Console.{turn, play_first}
-use borrow.Author.Rules.{rules}
+use Rattle.loops.specs.Upto.{upto_none, upto_turn, upto_all}
+use Rattle.room_c.specs.Console.{play_first}
 use Rattle.room_c.proofs.console.play_calls.Goals as goal
 
 pub loop-i-init : goal.loop-i-init
@@ -17,23 +14,22 @@ pub loop-i-smaller : goal.loop-i-smaller
 loop-i-smaller c = omega (arith, c.loop-i-test.true)
 
 pub loop-i-preserved : goal.loop-i-preserved
-loop-i-preserved c =
+loop-i-preserved c = (
+  omega arith,
+  (
+    c.rows-1.given ∙ c.loop-i.invariant.1.0,
     (
-      omega arith,
+      c.told-1.given ∙ c.loop-i.invariant.1.1.0,
       (
-        c.rows-1.given ∙ c.loop-i.invariant.1.0,
+        c.floats-1.given ∙ c.loop-i.invariant.1.1.1.0,
         (
-          c.told-1.given ∙ c.loop-i.invariant.1.1.0,
-          (
-            c.floats-1.given ∙ c.loop-i.invariant.1.1.1.0,
-            (
-              c.text-1.given ∙ c.loop-i.invariant.1.1.1.1.0,
-              upto_turn _ _ c.loop-i.invariant.1.1.1.1.1 c.call_at-r.ensures,
-            ),
-          ),
+          c.text-1.given ∙ c.loop-i.invariant.1.1.1.1.0,
+          upto_turn _ _ c.loop-i.invariant.1.1.1.1.1 c.call_at-r.ensures,
         ),
       ),
-    )
+    ),
+  ),
+)
 
 pub shape_of-rows : goal.shape_of-rows
 shape_of-rows c = c.loop-i.invariant.1.0

@@ -1,10 +1,8 @@
-use mathlib.Core.Path.{◌≡◌, refl, ◌∙◌}
+use mathlib.Core.Path.{◌≡◌}
 use Prim.Native.Nat.{◌≤◌, ◌-◌}
-use native.Mathlib.Omega.{arith}
 use lib.ListN.{length}
-use Rattle.loops.specs.Upto.{upto, upto_none, upto_turn, upto_all}
-use Rattle.room_c.specs.Console.{turn, play_first}
-use borrow.Author.Rules.{rules}
+use Rattle.loops.specs.Upto.{upto}
+use Rattle.room_c.specs.Console.{turn}
 use Rattle.room_c.proofs.console.play_calls.Given as goal
 
 abbrev pub invariant-loop-i : goal.invariant-loop-i

@@ -1,7 +1,6 @@
 use mathlib.Core.Path.{◌∙◌}
 use Rattle.demand.specs.Calls.{handed}
 use Rattle.room_c.specs.Console.{call_said}
-use borrow.Author.Rules.{rules}
 use Rattle.room_c.proofs.console.propose.Goals as goal
 
 pub returns : goal.returns

@@ -1,5 +1,4 @@
 use Rattle.room_c.specs.Console.{put_room}
-use borrow.Author.Rules.{rules}
 use Rattle.room_c.proofs.console.put_room.Goals as goal
 
 pub returns : goal.returns

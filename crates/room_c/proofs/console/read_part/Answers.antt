@@ -5,7 +5,6 @@ use Rattle.readings.specs.Calls.{«record», answer_of}
 use Rattle.room_c.specs.Answers.{said}
 use Rattle.room_c.specs.Console.{part_readings}
 use Rattle.room_c.proofs.Tabled.{get_d_last, past}
-use borrow.Author.Rules.{rules}
 use Rattle.room_c.proofs.console.read_part.Goals as goal
 
 pub returns-in-18 : goal.returns-in-18

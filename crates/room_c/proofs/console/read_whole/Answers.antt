@@ -5,7 +5,6 @@ use Rattle.readings.specs.Calls.{proposal_outcome, answer_of}
 use Rattle.room_c.specs.Answers.{said}
 use Rattle.room_c.specs.Console.{whole_readings}
 use Rattle.room_c.proofs.Tabled.{get_d_last, past}
-use borrow.Author.Rules.{rules}
 use Rattle.room_c.proofs.console.read_whole.Goals as goal
 
 pub returns-in-4 : goal.returns-in-4

@@ -1,5 +1,4 @@
 use Rattle.room_c.proofs.Running.{run_refused, run_made}
-use borrow.Author.Rules.{rules}
 use Rattle.room_c.proofs.console.room_run.Goals as goal
 
 pub returns-then-o-ne0 : goal.returns-then-o-ne0

@@ -1,6 +1,5 @@
 use mathlib.Core.Path.{refl}
 use Rattle.room_c.specs.Console.{term_numbers}
-use borrow.Author.Rules.{rules}
 use Rattle.room_c.proofs.console.term_numbers.Goals as goal
 
 pub returns : goal.returns

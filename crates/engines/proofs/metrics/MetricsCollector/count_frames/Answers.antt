@@ -1,4 +1,3 @@
-use Rattle.std.proofs.Common.{rules}
 use Rattle.engines.specs.Metrics.{with_frames}
 use Rattle.engines.proofs.metrics.MetricsCollector.count_frames.Goals as goal
 

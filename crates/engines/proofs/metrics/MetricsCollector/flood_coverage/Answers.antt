@@ -1,5 +1,4 @@
 use Rattle.engines.specs.Metrics.{flood_coverage_of}
-use Rattle.std.proofs.Common.{rules}
 use Rattle.engines.proofs.metrics.MetricsCollector.flood_coverage.Goals as goal
 
 pub returns : goal.returns

@@ -1,5 +1,4 @@
 use Rattle.engines.specs.Metrics.{link_pdr_of}
-use Rattle.std.proofs.Common.{rules}
 use Rattle.engines.proofs.metrics.MetricsCollector.link_pdr.Goals as goal
 
 pub returns : goal.returns

@@ -1,4 +1,3 @@
-use Rattle.std.proofs.Common.{rules}
 use Rattle.engines.specs.Network.{new_network}
 use Rattle.engines.proofs.network.Network.new.Goals as goal
 

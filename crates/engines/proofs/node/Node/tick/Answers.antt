@@ -1,5 +1,4 @@
 use Rattle.engines.specs.Nodes.{ticked}
-use Rattle.std.proofs.Common.{rules}
 use Rattle.engines.proofs.node.Node.tick.Goals as goal
 
 pub returns-in-Listen : goal.returns-in-Listen

@@ -1,5 +1,4 @@
 use mathlib.Core.Path.{sym, subst, ◌∙◌}
-use borrow.Author.Rules.{rules}
 use Rattle.graph.proofs.Answers.{length_refused, length_given}
 use Rattle.graph.proofs.Rules.{graph_parts}
 use Rattle.graph.proofs.Distance.{diameter_longest}

@@ -1,8 +1,6 @@
 use mathlib.Core.Path.{sym, ◌∙◌}
 use native.Mathlib.Omega.{arith}
 use lib.ListN.{length}
-use borrow.Author.Tests.{not-true, not-false}
-use borrow.Author.Rules.{rules}
 use Rattle.graph.proofs.Answers.{size_none, size_many, size_ok, rows_size, rows_stray, rows_taken}
 use Rattle.graph.proofs.network.NetworkGraph.from_rows.Goals as goal
 

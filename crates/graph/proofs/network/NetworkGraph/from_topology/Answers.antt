@@ -1,6 +1,5 @@
 use mathlib.Core.Path.{◌∙◌}
 use native.Mathlib.Omega.{arith}
-use borrow.Author.Rules.{rules}
 use Rattle.graph.proofs.Answers.{size_none, size_many, size_ok, topology_size, topology_1, topology_2, topology_3, topology_4, topology_5, topology_other}
 use Rattle.graph.proofs.network.NetworkGraph.from_topology.Goals as goal
 

@@ -1,6 +1,5 @@
 use mathlib.Core.Path.{◌∙◌}
 use native.Mathlib.Omega.{arith}
-use borrow.Author.Rules.{rules}
 use Rattle.graph.proofs.Answers.{size_none, size_many, size_ok, grid_size, grid_zero, grid_uneven, grid_even}
 use Rattle.graph.proofs.network.NetworkGraph.grid.Goals as goal
 

@@ -1,6 +1,5 @@
 use mathlib.Core.Path.{sym, ◌∙◌}
 use native.Mathlib.Omega.{arith}
-use borrow.Author.Rules.{rules}
 use Rattle.graph.specs.Paths.{has_link_of}
 use Rattle.graph.proofs.Answers.{test_refused, test_given, linked_row}
 use Rattle.graph.proofs.Rules.{pair_parts}

@@ -1,6 +1,5 @@
 use mathlib.Core.Path.{sym, ◌∙◌}
 use native.Mathlib.Omega.{arith}
-use borrow.Author.Rules.{rules}
 use Rattle.graph.proofs.Answers.{neighbors_refused, neighbors_given}
 use Rattle.graph.proofs.Rules.{node_parts}
 use Rattle.graph.proofs.network.NetworkGraph.neighbors.Goals as goal

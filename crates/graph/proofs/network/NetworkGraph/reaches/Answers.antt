@@ -1,5 +1,4 @@
 use mathlib.Core.Path.{sym, ◌∙◌}
-use borrow.Author.Rules.{rules}
 use Rattle.graph.proofs.Answers.{test_refused, test_given}
 use Rattle.graph.proofs.Rules.{pair_parts}
 use Rattle.graph.specs.Paths.{reaches_of}

@@ -2,7 +2,6 @@ use mathlib.Core.Path.{◌≡◌, sym, ◌∙◌}
 use native.Mathlib.Omega.{arith}
 use lib.ListN.{length}
 use borrow.Author.Rules.{rules}
-use borrow.Author.Tests.{not-true, not-false}
 use Rattle.graph.proofs.Answers.{size_none, size_many, size_ok, graph_size, graph_links}
 use Rattle.graph.proofs.network.NetworkGraph.refusal.Goals as goal
 

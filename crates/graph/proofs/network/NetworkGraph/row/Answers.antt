@@ -1,6 +1,5 @@
 use mathlib.Core.Path.{sym, ◌∙◌}
 use native.Mathlib.Omega.{arith}
-use borrow.Author.Rules.{rules}
 use Rattle.graph.proofs.Answers.{row_refused, row_given}
 use Rattle.graph.proofs.Rules.{node_parts}
 use Rattle.graph.proofs.network.NetworkGraph.row.Goals as goal

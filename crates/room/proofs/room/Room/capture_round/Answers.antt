@@ -1,4 +1,3 @@
-use Rattle.std.proofs.Common.{rules}
 use Rattle.room.specs.Rooms.{capture_of}
 use Rattle.room.proofs.room.Room.capture_round.Goals as goal
 

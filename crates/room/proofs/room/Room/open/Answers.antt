@@ -1,4 +1,4 @@
-use Rattle.std.proofs.Common.{rules, eq-eqb, ne_eqb}
+use Rattle.std.proofs.Common.{eq-eqb, ne_eqb}
 use Rattle.room.specs.Rooms.{open_of}
 use Rattle.room.proofs.room.Room.open.Goals as goal
 

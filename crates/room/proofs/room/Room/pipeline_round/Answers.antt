@@ -1,4 +1,3 @@
-use Rattle.std.proofs.Common.{rules}
 use Rattle.room.specs.Rooms.{pipeline_of}
 use Rattle.room.proofs.room.Room.pipeline_round.Goals as goal
 

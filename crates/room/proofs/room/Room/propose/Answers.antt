@@ -1,4 +1,3 @@
-use Rattle.std.proofs.Common.{rules}
 use Rattle.room.specs.Rooms.{propose_of}
 use Rattle.room.proofs.room.Room.propose.Goals as goal
 
