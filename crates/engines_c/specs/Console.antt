@@ -100,7 +100,7 @@ abbrev pub UpTo : ℕ → ℕ → Type 0
 UpTo k r = (0 < r) × (r ≤ k)
 
 -- The lowest number first, said of each refusal by itself, whatever else holds; and where none holds the answer is the
--- round's own. `lowest-first` of proofs/Lowest.antt says so of every r that a call answers.
+-- round's own. `lowest_first` of proofs/Lowest.antt says so of every r that a call answers.
 pub record LowestFirst (xs ws : List ℕ) (numbers : ℕ) (conf : RoundConf) (initiator r : ℕ) : Type 0 where
   pub positions : is_size conf.graph.n ≡ false → UpTo bad_positions r
   pub links : all_of conf.graph.n (λ i. inside conf.graph.n (get_or conf.graph.adj i 0)) ≡ false
