@@ -1,6 +1,11 @@
 -- RULES 15: the numbers of the refusals. What each is for is said where it is told; src/refusals.rt has them in
 -- words. 0 is no refusal. Assumes nothing: these are definitions.
-use Rattle.std.specs.Prelude.{ℕ}
+use Rattle.std.specs.Prelude.{ℕ, Result, Ok, Err}
+use Rattle.limits.specs.declared.refusals.Refusal.{Refusal}
+use Rattle.limits.specs.declared.refusals.Refusal.TheVariants.{BadLine, BadPositions, BadLinks, BadLoss, NoRepeats}
+use Rattle.limits.specs.declared.refusals.Refusal.TheVariants.{NoInterval, ManyTransactions, NoPosition, BadPacket}
+use Rattle.limits.specs.declared.refusals.Refusal.TheVariants.{NoFit, OtherKind, NoProposal, NoTerm, Stopped, TooLong}
+use Rattle.limits.specs.declared.refusals.Refusal.TheVariants.{WordsShort, RowsShort}
 
 abbrev pub bad_line : ℕ
 bad_line = 1
@@ -52,3 +57,27 @@ words_short = 16
 
 abbrev pub rows_short : ℕ
 rows_short = 17
+
+abbrev pub number_of : Refusal → ℕ
+number_of BadLine = bad_line
+number_of BadPositions = bad_positions
+number_of BadLinks = bad_links
+number_of BadLoss = bad_loss
+number_of NoRepeats = no_repeats
+number_of NoInterval = no_interval
+number_of ManyTransactions = many_transactions
+number_of NoPosition = no_position
+number_of BadPacket = bad_packet
+number_of NoFit = no_fit
+number_of OtherKind = other_kind
+number_of NoProposal = no_proposal
+number_of NoTerm = no_term
+number_of Stopped = stopped
+number_of TooLong = too_long
+number_of WordsShort = words_short
+number_of RowsShort = rows_short
+
+-- what a call for C answers: the refusal's number, 0 for none
+abbrev pub answer_of : {A : Type 0} → Result A Refusal → ℕ
+answer_of (Ok _) = 0
+answer_of (Err refusal) = number_of refusal
