@@ -1,16 +1,12 @@
 -- The answers of the entries for C, case by case. Assumes nothing.
-use mathlib.Core.Path.{◌≡◌, refl, sym, ◌∙◌}
-use mathlib.Core.List.{List, [], ◌∷◌}
-use Prim.Native.Nat.{ℕ, ◌+◌, ◌≤◌, ◌<◌}
-use native.Mathlib.Nat.{zero-add}
-use native.Mathlib.Numerals.{add-one}
-use native.Mathlib.Omega.{arith}
-use lib.ListN.{length, take, get_or, set}
-use lib.Seq.{sets, take-suc, length-take-le}
-use borrow.Author.Tests.{eq-eqb, ne_eqb, le-leb, lt-leb}
-use Rattle.limits.specs.Refusals.{no_fit}
-use Rattle.loops.specs.Stores.{sets_append}
-use Rattle.graph.specs.Console.{first, room64, unless}
+use Rattle.std.proofs.Common.{◌≡◌, refl, sym, ◌∙◌, ℕ, ◌≤◌, arith, List, ◌++◌, length, drop, Result, Ok, Err}
+use Rattle.std.proofs.lemmas.List.Edits.{sets, sets-eq}
+use lib.Dec.{leb}
+use borrow.Author.Tests.{eq-eqb, ne_eqb, leb-true}
+use Rattle.limits.proofs.Tests.{no_err, held, first_held}
+use Rattle.limits.specs.declared.refusals.Refusal.{Refusal}
+use Rattle.limits.specs.declared.refusals.Refusal.TheVariants.{NoFit}
+use Rattle.graph.specs.Console.{first, room64, unless, with_room}
 
 pub first_here : (a b : ℕ) → (a ≡ 0 → ⊥) → a ≡ first a b
 unfolding first
@@ -20,14 +16,6 @@ pub first_next : (a b k : ℕ) → a ≡ 0 → k ≡ b → k ≡ first a b
 unfolding first
 first_next a b k h e = e ∙ rw (eq-eqb a 0 h)
 
-pub room_short : (n : ℕ) → n < 64 → no_fit ≡ room64 n
-unfolding room64
-room_short n h = rw (lt-leb 64 n h)
-
-pub room_ok : (n : ℕ) → 64 ≤ n → 0 ≡ room64 n
-unfolding room64
-room_ok n h = rw (le-leb 64 n h)
-
 pub unless_refused : {A : Type 0} (k : ℕ) (new old : A) → (k ≡ 0 → ⊥) → old ≡ unless k new old
 unfolding unless
 unless_refused k new old h = rw (ne_eqb k 0 h)
@@ -36,8 +24,11 @@ pub unless_done : {A : Type 0} (new old : A) → new ≡ unless 0 new old
 unfolding unless
 unless_done new old = refl
 
--- a turn of a loop that stores one number behind the other from the start
-pub put_turn : (l from : List ℕ) (i : ℕ) → i < length from → set (sets l 0 (take i from)) i (get_or from i 0) ≡ sets l 0 (take (i + 1) from)
-put_turn l from i h =
-    let n : length (take i from) ≡ i = length-take-le i from (omega arith) in
-    sym (rw (add-one i, take-suc from i 0 h, ← sets_append (take i from) (get_or from i 0 ∷ []) l 0, zero-add (length (take i from)), n))
+-- a buffer in which what was told is put is long enough
+pub roomy : {A : Type 0} (n : ℕ) (told : Result A Refusal) (a : A) → with_room n told ≡ Ok a → 64 ≤ n
+roomy n (Ok x) a e = leb-true 64 n (held (leb 64 n) NoFit (first_held (room64 n) (Ok x) a e))
+roomy n (Err refusal) a e = no_err e
+
+-- the first 64 numbers stored
+pub stored : (l values : List ℕ) → length values ≡ 64 → 64 ≤ length l → values ++ drop 64 l ≡ sets l 0 values
+stored l values e h = sym (sets-eq values l 0 (omega arith) ∙ rw e)

@@ -7,20 +7,23 @@ use native.Mathlib.Nat.{le-div_iff_mul-le, div-lt_iff_lt-mul, div-eq_of_lt-le, s
 use native.Mathlib.Numerals.{add-one}
 use native.Mathlib.Omega.{arith}
 use lib.Dec.{eqb, ltb, leb}
-use lib.ListN.{length, set, replicate, length-append}
+use lib.ListN.{length, get_or, set, drop, replicate, length-append}
 use lib.Seq.{sets}
 use borrow.Author.Tests.{eq-eqb, ne_eqb, eqb-true, eqb-false, lt-ltb, le-ltb, ltb-true, le-leb, leb-true, lt-leb}
-use Rattle.limits.specs.Refusals.{bad_positions, bad_links, no_position}
-use Rattle.loops.specs.Pick.{either}
+use Rattle.std.specs.Prelude.{Ok}
+use Rattle.std.specs.Result.{result_and}
+use Rattle.limits.specs.Refusals.{holds_or}
+use Rattle.limits.proofs.Tests.{held, first_held, second_held}
+use Rattle.limits.specs.declared.refusals.Refusal.TheVariants.{BadPositions, NoPosition}
 use Rattle.loops.specs.Stores.{sets_append}
-use Rattle.loops.specs.Table.{filled}
-use Rattle.marks.specs.Sets.{iff, and_true, true_and, all_at, all_found, none_zero, members_more, members_count, count_le}
+use Rattle.std.proofs.lemmas.List.{drop-replicate}
+use Rattle.loops.specs.Table.{filled, tabulate_get}
+use Rattle.marks.specs.Sets.{iff, and_true, true_and, all_at, all_found, none_zero, members_more, members_count, count_le, all_there, all_short}
 use Rattle.marks.specs.Marks.{has, marks, all_of, members}
 use Rattle.marks.specs.Laws.{has_none}
 use Rattle.graph.specs.declared.network.NetworkGraph.{NetworkGraph}
 use Rattle.graph.specs.declared.network.NeighborList.{NeighborList}
-use Rattle.graph.specs.declared.network.Topology.{Topology}
-use Rattle.graph.specs.Links.{tree_rule, grid_rule, next_rule, link_of, graph_by, built_of, plain_of, accepted, refused, inside, list_of, graph_refusal, node_refusal, pair_refusal}
+use Rattle.graph.specs.Links.{is_size, tree_rule, grid_rule, next_rule, graph_by, inside, all_inside, list_of, size_test, graph_test, node_test}
 
 pub eqb_iff : (a b c d : ℕ) → (a ≡ b → c ≡ d) → (c ≡ d → a ≡ b) → eqb a b ≡ eqb c d
 eqb_iff a b c d f g = iff (eqb a b) (eqb c d) (λ e. eq-eqb c d (f (eqb-true a b e))) (λ e. eq-eqb a b (g (eqb-true c d e)))
@@ -87,19 +90,6 @@ pub graph_filled : (n : ℕ) (link : ℕ → ℕ → Bool) {l : List ℕ} → l 
 unfolding graph_by
 graph_filled n link e = rw e
 
--- 1 to 64 positions, as the code tests it
-pub built_none : (n : ℕ) (link : ℕ → ℕ → Bool) → n ≡ 0 → refused bad_positions ≡ built_of n link
-unfolding built_of
-built_none n link e = rw (le-ltb 0 n (omega arith))
-
-pub built_many : (n : ℕ) (link : ℕ → ℕ → Bool) → 0 < n → 64 < n → refused bad_positions ≡ built_of n link
-unfolding built_of
-built_many n link h l = rw (lt-ltb 0 n h, lt-leb n 64 l)
-
-pub built_by : (n : ℕ) (link : ℕ → ℕ → Bool) {g : NetworkGraph} → 0 < n → n ≤ 64 → g ≡ graph_by n link → accepted g ≡ built_of n link
-unfolding built_of
-built_by n link h l e = rw (lt-ltb 0 n h, le-leb n 64 l, e)
-
 -- Every mark of a row is below n just if nothing is left of it without the first n marks.
 module _ (row n d : ℕ) (stray : (j : ℕ) → has d j ≡ (has row j && not (ltb j n && ltb j 64))) where
   pub inside_yes : d ≡ 0 → true ≡ inside n row
@@ -124,88 +114,58 @@ module _ (row n d : ℕ) (stray : (j : ℕ) → has d j ≡ (has row j && not (l
       go true e = absurd (ne (none_zero d h (λ j l. stray j ∙ by (has row j) (ltb j n) (ltb j 64) (lt-ltb j 64 l) (all_at 64 (λ j. not (has row j) || ltb j n) e j l))))
       go false e = refl
 
--- a turn of the loop that lists the marks of m
-pub list_turn : (m j : ℕ) {l r : NeighborList} → l ≡ list_of m j → r ≡ either (has m j) (record { refusal = l.refusal; count = l.count + 1; at = set l.at l.count j }) l → r ≡ list_of m (j + 1)
-unfolding list_of
-list_turn m j {l} {r} e g = g ∙ rw (e, members_more m j) (by (has m j))
-  where
-    z : List ℕ
-    z = replicate 64 0
+  pub inside_is : d < 2 ^ 64 → eqb d 0 ≡ inside n row
+  inside_is h = go (eqb d 0) refl
+    where
+      go : (t : Bool) → eqb d 0 ≡ t → t ≡ inside n row
+      go true e = inside_yes (eqb-true d 0 e)
+      go false e = inside_no h (eqb-false d 0 e)
 
-    by : (t : Bool) → either t (record { refusal = 0; count = length (members m j) + 1; at = set (sets (replicate 64 0) 0 (members m j)) (length (members m j)) j }) (list_of m j) ≡ record { refusal = 0; count = length (members m j ++ either t (j ∷ []) []); at = sets (replicate 64 0) 0 (members m j ++ either t (j ∷ []) []) }
-    by true =
-        rw (length-append (members m j) (j ∷ []), ← sets_append (members m j) (j ∷ []) (replicate 64 0) 0, native.Mathlib.Nat.zero-add (length (members m j)))
-    by false = rw (append-nil (members m j))
+-- Every one of the first n marks is there just if none is missing.
+pub all_is : (m n d : ℕ) → ((j : ℕ) → has d j ≡ ((ltb j n && ltb j 64) && not (has m j))) → n ≤ 64 → d < 2 ^ 64 → eqb d 0 ≡ all_of n (λ j. has m j)
+all_is m n d missing h l = go (eqb d 0) refl
+  where
+    go : (t : Bool) → eqb d 0 ≡ t → t ≡ all_of n (λ j. has m j)
+    go true e = sym (all_there m n d missing h (eqb-true d 0 e))
+    go false e = sym (all_short m n d missing l (eqb-false d 0 e))
+
+-- a turn of the loop that lists the marks of m
+pub list_more : (m j : ℕ) {l : NeighborList} → l ≡ list_of m j → has m j ≡ true → record { count = l.count + 1; at = set l.at l.count j } ≡ list_of m (j + 1)
+unfolding list_of
+list_more m j {l} e h =
+    rw (e, members_more m j, h, length-append (members m j) (j ∷ []), ← sets_append (members m j) (j ∷ []) (replicate 64 0) 0, native.Mathlib.Nat.zero-add (length (members m j)))
+
+pub list_same : (m j : ℕ) {l : NeighborList} → l ≡ list_of m j → has m j ≡ false → l ≡ list_of m (j + 1)
+unfolding list_of
+list_same m j {l} e h = rw (e, members_more m j, h, append-nil (members m j))
 
 pub list_room : (m j : ℕ) (l : NeighborList) → l ≡ list_of m j → l.count ≤ j
 unfolding list_of
 list_room m j l e = rw e (omega (arith, members_count m j, count_le m j))
 
--- refusals 2, 3 and 8, as the code tests them
-module _ (g : NetworkGraph) where
-  -- what it means that the graph has none
-  pub graph_parts : graph_refusal g ≡ 0 → (0 < g.n) × (g.n ≤ 64)
-  unfolding graph_refusal
-  graph_parts e = go (ltb 0 g.n) refl (leb g.n 64) refl _ e
-    where
-      go : (a : Bool) → ltb 0 g.n ≡ a → (b : Bool) → leb g.n 64 ≡ b → (t : ℕ)
-          → ◌≡◌ {A = ℕ} (either (a && b) t bad_positions) 0 → (0 < g.n) × (g.n ≤ 64)
-      go true p true q t e = (ltb-true 0 g.n p, leb-true g.n 64 q)
-      go true p false q t e = absurd (omega arith)
-      go false p b q t e = absurd (omega arith)
-
-  module _ (i : ℕ) where
-    pub node_refused : (r : ℕ) → r ≡ graph_refusal g → (r ≡ 0 → ⊥) → r ≡ node_refusal g i
-    unfolding node_refusal
-    node_refused r e h = rw (← e, ne_eqb r 0 h)
-
-    pub node_far : graph_refusal g ≡ 0 → g.n ≤ i → no_position ≡ node_refusal g i
-    unfolding node_refusal
-    node_far e h = rw (e, le-ltb i g.n h)
-
-    pub node_ok : graph_refusal g ≡ 0 → i < g.n → 0 ≡ node_refusal g i
-    unfolding node_refusal
-    node_ok e h = rw (e, lt-ltb i g.n h)
-
-    -- what it means that the call has none
-    pub node_parts : node_refusal g i ≡ 0 → (g.n ≤ 64) × (i < g.n)
-    unfolding node_refusal
-    node_parts e = go (eqb (graph_refusal g) 0) refl (ltb i g.n) refl e
-      where
-        go : (a : Bool) → eqb (graph_refusal g) 0 ≡ a → (b : Bool) → ltb i g.n ≡ b
-            → either a (either b 0 no_position) (graph_refusal g) ≡ 0 → (g.n ≤ 64) × (i < g.n)
-        go true p true q f = ((graph_parts (eqb-true (graph_refusal g) 0 p)).1, ltb-true i g.n q)
-        go true p false q f = absurd (omega arith)
-        go false p b q f = absurd (eqb-false (graph_refusal g) 0 p f)
-
-  module _ (i j : ℕ) where
-    pub pair_first : (r : ℕ) → r ≡ node_refusal g i → (r ≡ 0 → ⊥) → r ≡ pair_refusal g i j
-    unfolding pair_refusal
-    pair_first r e h = rw (← e, ne_eqb r 0 h)
-
-    pub pair_second : (r : ℕ) → node_refusal g i ≡ 0 → r ≡ node_refusal g j → r ≡ pair_refusal g i j
-    unfolding pair_refusal
-    pair_second r h e = rw (h, e)
-
-    pub pair_parts : pair_refusal g i j ≡ 0 → (g.n ≤ 64) × (i < g.n) × (j < g.n)
-    unfolding pair_refusal
-    pair_parts e = go (eqb (node_refusal g i) 0) refl e
-      where
-        go : (t : Bool) → eqb (node_refusal g i) 0 ≡ t → either t (node_refusal g j) (node_refusal g i) ≡ 0
-            → (g.n ≤ 64) × (i < g.n) × (j < g.n)
-        go true p f =
-            let a = node_parts i (eqb-true (node_refusal g i) 0 p) in
-            let b = node_parts j f in
-            (a.0, a.1, b.1)
-        go false p f = absurd (eqb-false (node_refusal g i) 0 p f)
-
--- a topology that takes no argument
-pub plain_refused : (t : Topology) (n argument : ℕ) → (argument ≡ 0 → ⊥) → refused bad_links ≡ plain_of t n argument
-plain_refused t n argument h = rw (ne_eqb argument 0 h)
-
-pub plain_built : (t : Topology) (n argument : ℕ) → argument ≡ 0 → built_of n (link_of t n) ≡ plain_of t n argument
-plain_built t n argument h = rw (eq-eqb argument 0 h)
-
-pub list_none : (m : ℕ) → record { refusal = 0; count = 0; at = replicate 64 0 } ≡ list_of m 0
+pub list_none : (m : ℕ) → record { count = 0; at = replicate 64 0 } ≡ list_of m 0
 unfolding list_of members
 list_none m = refl
+
+-- what it means that a size, a graph and a position are not refused
+pub size_parts : (n : ℕ) → size_test n ≡ Ok tt → (0 < n) × (n ≤ 64)
+unfolding size_test
+size_parts n e =
+    let p = and_true (ltb 0 n) (leb n 64) (held (is_size n) BadPositions e) in
+    (ltb-true 0 n p.0, leb-true n 64 p.1)
+
+pub graph_parts : (g : NetworkGraph) → graph_test g ≡ Ok tt → (0 < g.n) × (g.n ≤ 64)
+unfolding graph_test
+graph_parts g e = size_parts g.n (first_held (size_test g.n) (all_inside g.n g.adj) tt e)
+
+pub node_parts : (g : NetworkGraph) (i : ℕ) → node_test g i ≡ Ok tt → (g.n ≤ 64) × (i < g.n)
+unfolding node_test
+node_parts g i e =
+    let first = first_held (graph_test g) (holds_or (ltb i g.n) NoPosition) tt e in
+    let second = second_held (graph_test g) (holds_or (ltb i g.n) NoPosition) tt e in
+    ((graph_parts g first).1, ltb-true i g.n (held (ltb i g.n) NoPosition second))
+
+-- the rows that were copied are those of the rule
+pub copied_is : (l : List ℕ) → length l ≤ 64 → l ++ drop (length l) (replicate 64 0) ≡ filled 0 64 (length l) (λ i. get_or l i 0)
+unfolding filled
+copied_is l h = rw (tabulate_get l 0, drop-replicate {X = ℕ} (length l) 64 0)

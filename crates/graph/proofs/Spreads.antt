@@ -11,9 +11,9 @@ use native.Mathlib.Omega.{arith}
 use lib.Dec.{eqb, ltb}
 use lib.ListN.{get_or}
 use borrow.Author.Tests.{eq-eqb, eqb-true, lt-ltb, ltb-true, not-true}
-use Rattle.marks.specs.Marks.{has, marks, any_of, count_of, Lowest}
+use Rattle.marks.specs.Marks.{has, marks, any_of, Without}
 use Rattle.marks.specs.Laws.{has_none, same}
-use Rattle.marks.specs.Sets.{iff, and_true, true_and, any_at, any_found, none_zero, lowest_lt, count_grows, or_false, marks_lt, has_marks, marks_is, marks_whole}
+use Rattle.marks.specs.Sets.{iff, and_true, true_and, any_at, any_found, none_zero, or_false, marks_lt, has_marks, marks_is, marks_whole}
 use Rattle.graph.specs.declared.network.NetworkGraph.{NetworkGraph}
 use Rattle.graph.specs.declared.network.Wave.{Wave}
 use Rattle.graph.specs.Links.{linked}
@@ -42,10 +42,7 @@ module _ (adj : List ℕ) where
   pub spread_done : (out left front : ℕ) → left ≡ 0 → (j : ℕ) → (has out j || leads adj left j) ≡ leads adj front j → has out j ≡ leads adj front j
   spread_done out left front e j h = sym (ap (λ (x : ℕ). has out j || leads adj x j) e ∙ ap (λ (t : Bool). has out j || t) (leads_none j) ∙ or_false (has out j)) ∙ h
 
-  module _ (out out' left left' i : ℕ) (small : left < 2 ^ 64) (some : left ≡ 0 → ⊥) (low : Lowest left i) (joined : (j : ℕ) → has out' j ≡ (has out j || has (get_or adj i 0) j)) (less : (j : ℕ) → has left' j ≡ (has left j && not (eqb j i))) where
-    there : has left i ≡ true
-    there = low.there (lowest_lt left i small some low)
-
+  module _ (out out' left left' i : ℕ) (step : Without left i left') (joined : (j : ℕ) → has out' j ≡ (has out j || has (get_or adj i 0) j)) where
     pub spread_turn : (j : ℕ) → (has out' j || leads adj left' j) ≡ (has out j || leads adj left j)
     spread_turn j = iff (has out' j || leads adj left' j) (has out j || leads adj left j) down up
       where
@@ -54,14 +51,14 @@ module _ (adj : List ℕ) where
           where
             from_row : (has out j ≡ true) ⊎ (has (get_or adj i 0) j ≡ true) → (has out j || leads adj left j) ≡ true
             from_row (inl p) = or_left (has out j) (leads adj left j) p
-            from_row (inr p) = or_right (has out j) (leads adj left j) (any_at 64 (λ h. has left h && has (get_or adj h 0) j) i (lowest_lt left i small some low) (true_and (has left i) (has (get_or adj i 0) j) there p))
+            from_row (inr p) = or_right (has out j) (leads adj left j) (any_at 64 (λ h. has left h && has (get_or adj h 0) j) i step.low (true_and (has left i) (has (get_or adj i 0) j) step.there p))
 
             go : (has out' j ≡ true) ⊎ (leads adj left' j ≡ true) → (has out j || leads adj left j) ≡ true
             go (inl p) = from_row (or_cases (has out j) (has (get_or adj i 0) j) (sym (joined j) ∙ p))
             go (inr p) =
                 let f = any_found 64 (λ h. has left' h && has (get_or adj h 0) j) p in
                 let b = and_true (has left' f.0) (has (get_or adj f.0 0) j) f.2 in
-                let l = and_true (has left f.0) (not (eqb f.0 i)) (sym (less f.0) ∙ b.0) in
+                let l = and_true (has left f.0) (not (eqb f.0 i)) (sym (step.rest f.0) ∙ b.0) in
                 or_right (has out j) (leads adj left j) (any_at 64 (λ h. has left h && has (get_or adj h 0) j) f.0 f.1 (true_and (has left f.0) (has (get_or adj f.0 0) j) l.0 b.1))
 
         up : (has out j || leads adj left j) ≡ true → (has out' j || leads adj left' j) ≡ true
@@ -69,7 +66,7 @@ module _ (adj : List ℕ) where
           where
             from_mark : (h : ℕ) → h < 64 → has left h ≡ true → has (get_or adj h 0) j ≡ true → (t : Bool) → eqb h i ≡ t → (has out' j || leads adj left' j) ≡ true
             from_mark h l p q true x = or_left (has out' j) (leads adj left' j) (joined j ∙ or_right (has out j) (has (get_or adj i 0) j) (subst (λ (z : ℕ). has (get_or adj z 0) j ≡ true) (eqb-true h i x) q))
-            from_mark h l p q false x = or_right (has out' j) (leads adj left' j) (any_at 64 (λ z. has left' z && has (get_or adj z 0) j) h l (true_and (has left' h) (has (get_or adj h 0) j) (less h ∙ true_and (has left h) (not (eqb h i)) p (ap not x)) q))
+            from_mark h l p q false x = or_right (has out' j) (leads adj left' j) (any_at 64 (λ z. has left' z && has (get_or adj z 0) j) h l (true_and (has left' h) (has (get_or adj h 0) j) (step.rest h ∙ true_and (has left h) (not (eqb h i)) p (ap not x)) q))
 
             go : (has out j ≡ true) ⊎ (leads adj left j ≡ true) → (has out' j || leads adj left' j) ≡ true
             go (inl p) = or_left (has out' j) (leads adj left' j) (joined j ∙ or_left (has out j) (has (get_or adj i 0) j) p)
@@ -77,16 +74,6 @@ module _ (adj : List ℕ) where
                 let f = any_found 64 (λ h. has left h && has (get_or adj h 0) j) p in
                 let b = and_true (has left f.0) (has (get_or adj f.0 0) j) f.2 in
                 from_mark f.0 f.1 b.0 b.1 (eqb f.0 i) refl
-
-    -- the mark that was taken is gone, and no other came
-    pub spread_less : count_of left' 64 < count_of left 64
-    spread_less =
-        count_grows left' left 64 i (lowest_lt left i small some low)
-        (less i ∙ by (has left i) (eqb i i) (eq-eqb i i refl)) there (λ j l e. (and_true (has left j) (not (eqb j i)) (sym (less j) ∙ e)).0)
-      where
-        by : (a b : Bool) → b ≡ true → (a && not b) ≡ false
-        by true b e = ap not e
-        by false b e = refl
 
 -- what was reached a step before
 unfoldable pub earlier : NetworkGraph → ℕ → ℕ → ℕ

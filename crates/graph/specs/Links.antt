@@ -1,17 +1,17 @@
 -- RULES 2.1, 2.2 and 2.4, and refusals 2, 3 and 8 of RULES 15: what a graph of links is, and which links each builder
 -- makes. A link from i to j says that j hears i. Assumes nothing.
-use Rattle.std.specs.Prelude.{Bool, false, not, ◌||◌, ◌&&◌, List, ℕ, ◌+◌, ◌*◌, ◌/◌, ◌%◌, length, get_or, replicate, eqb, ltb, leb}
+use Rattle.std.specs.Prelude.{Bool, not, Result, Ok, Err, ◌||◌, ◌&&◌, List, ℕ, ◌+◌, ◌*◌, ◌/◌, ◌%◌, length, get_or, replicate, eqb, ltb, leb}
+use Rattle.std.specs.Result.{result_and}
 use Rattle.std.proofs.lemmas.List.Edits.{sets}
 use Rattle.limits.specs.Limits.{positions}
-use Rattle.limits.specs.Refusals.{bad_positions, bad_links, no_position}
+use Rattle.limits.specs.Refusals.{Tested, holds_or, answer_of}
+use Rattle.limits.specs.declared.refusals.Refusal.{Refusal}
+use Rattle.limits.specs.declared.refusals.Refusal.TheVariants.{BadPositions, BadLinks, NoPosition}
 use Rattle.loops.specs.Pick.{either}
 use Rattle.loops.specs.Table.{filled}
 use Rattle.marks.specs.Marks.{has, marks, all_of, members}
 use Rattle.graph.specs.declared.network.NetworkGraph.{NetworkGraph}
-use Rattle.graph.specs.declared.network.Built.{Built}
-use Rattle.graph.specs.declared.network.NeighborRow.{NeighborRow}
 use Rattle.graph.specs.declared.network.NeighborList.{NeighborList}
-use Rattle.graph.specs.declared.network.LinkTest.{LinkTest}
 use Rattle.graph.specs.declared.network.Topology.{Topology}
 use Rattle.graph.specs.declared.network.Topology.TheVariants.{FullMesh, Line, Ring, Grid, Tree}
 
@@ -19,22 +19,15 @@ use Rattle.graph.specs.declared.network.Topology.TheVariants.{FullMesh, Line, Ri
 unfoldable pub graph_by : ℕ → (ℕ → ℕ → Bool) → NetworkGraph
 graph_by n link = record { n = n; adj = filled 0 64 n (λ i. marks n (link i)) }
 
--- what stands beside a refusal: a graph of no positions
-abbrev pub no_graph : NetworkGraph
-no_graph = record { n = 0; adj = replicate 64 0 }
-
-abbrev pub refused : ℕ → Built
-refused k = record { refusal = k; graph = no_graph }
-
-abbrev pub accepted : NetworkGraph → Built
-accepted g = record { refusal = 0; graph = g }
-
 -- Refusal 2: there are 1 to 64 positions.
 abbrev pub is_size : ℕ → Bool
 is_size n = ltb 0 n && leb n positions
 
-unfoldable pub built_of : ℕ → (ℕ → ℕ → Bool) → Built
-built_of n link = either (is_size n) (accepted (graph_by n link)) (refused bad_positions)
+unfoldable pub size_test : ℕ → Tested
+size_test n = holds_or (is_size n) BadPositions
+
+abbrev pub built_of : ℕ → (ℕ → ℕ → Bool) → Result NetworkGraph Refusal
+built_of n link = result_and (size_test n) (Ok (graph_by n link))
 
 -- The rules of the five builders, each for one direction of a link; a builder links both ways.
 -- Full mesh: each with each other.
@@ -74,77 +67,73 @@ link_of t n i j = ahead_of t n i j || ahead_of t n j i
 abbrev pub divides : ℕ → ℕ → Bool
 divides rows n = not (eqb rows 0) && eqb (n % rows) 0
 
-unfoldable pub grid_of : ℕ → ℕ → Built
+abbrev pub grid_of : ℕ → ℕ → Result NetworkGraph Refusal
 grid_of n rows =
-    either (is_size n)
-    (either (divides rows n) (built_of n (link_of (Grid (n / rows)) n)) (refused bad_links))
-    (refused bad_positions)
+    result_and (size_test n) (result_and (holds_or (divides rows n) BadLinks) (built_of n (link_of (Grid (n / rows)) n)))
 
 -- The numbers of the topologies (RULES 2.2), as a frame gives them: 1 mesh, 2 line, 3 ring, each with argument 0; 4
 -- grid, by its rows; 5 tree, by its branching. Refusal 3: any other number, or a wrong argument; refusal 2 comes
 -- first.
-abbrev pub plain_of : Topology → ℕ → ℕ → Built
-plain_of t n argument = either (eqb argument 0) (built_of n (link_of t n)) (refused bad_links)
+abbrev pub plain_of : Topology → ℕ → ℕ → Result NetworkGraph Refusal
+plain_of t n argument = result_and (holds_or (eqb argument 0) BadLinks) (built_of n (link_of t n))
 
-unfoldable pub topology_of : ℕ → ℕ → ℕ → Built
+unfoldable pub topology_of : ℕ → ℕ → ℕ → Result NetworkGraph Refusal
 topology_of topology n argument =
-    either (is_size n)
+    result_and (size_test n)
     (either (eqb topology 1) (plain_of FullMesh n argument)
     (either (eqb topology 2) (plain_of Line n argument)
     (either (eqb topology 3) (plain_of Ring n argument)
     (either (eqb topology 4) (grid_of n argument)
     (either (eqb topology 5) (built_of n (link_of (Tree argument) n))
-    (refused bad_links))))))
-    (refused bad_positions)
+    (Err BadLinks))))))
 
 -- Refusal 3 of rows: no mark at n or above.
 unfoldable pub inside : ℕ → ℕ → Bool
 inside n row = all_of 64 (λ j. not (has row j) || ltb j n)
 
+unfoldable pub all_inside : ℕ → List ℕ → Tested
+all_inside n rows = holds_or (all_of n (λ i. inside n (get_or rows i 0))) BadLinks
+
 -- the graph that has these rows, one for each position
-unfoldable pub rows_of : List ℕ → Built
+unfoldable pub rows_of : List ℕ → Result NetworkGraph Refusal
 rows_of rows =
     let n = length rows in
-    either (is_size n)
-    (either (all_of n (λ i. inside n (get_or rows i 0)))
-    (accepted (record { n = n; adj = filled 0 64 n (λ i. get_or rows i 0) }))
-    (refused bad_links))
-    (refused bad_positions)
+    result_and (size_test n)
+    (result_and (all_inside n rows) (Ok (record { n = n; adj = filled 0 64 n (λ i. get_or rows i 0) })))
 
 -- Refusals 2 and 3 of a graph whose numbers may be any.
-unfoldable pub graph_refusal : NetworkGraph → ℕ
-graph_refusal g = either (is_size g.n) (either (all_of g.n (λ i. inside g.n (get_or g.adj i 0))) 0 bad_links) bad_positions
+unfoldable pub graph_test : NetworkGraph → Tested
+graph_test g = result_and (size_test g.n) (all_inside g.n g.adj)
 
 -- Refusals 2 and 8 of a call on position i of n.
-unfoldable pub position_refusal : ℕ → ℕ → ℕ
-position_refusal n i = either (is_size n) (either (ltb i n) 0 no_position) bad_positions
+unfoldable pub position_test : ℕ → ℕ → Tested
+position_test n i = result_and (size_test n) (holds_or (ltb i n) NoPosition)
 
--- Refusals 2, 3 and 8 of a call on one position of a graph, whose numbers may be any.
-unfoldable pub node_refusal : NetworkGraph → ℕ → ℕ
-node_refusal g i = either (eqb (graph_refusal g) 0) (either (ltb i g.n) 0 no_position) (graph_refusal g)
+-- Refusals 2, 3 and 8 of a call on one position of a graph, whose numbers may be any, and of a call on two.
+unfoldable pub node_test : NetworkGraph → ℕ → Tested
+node_test g i = result_and (graph_test g) (holds_or (ltb i g.n) NoPosition)
+
+abbrev pub pair_test : NetworkGraph → ℕ → ℕ → Tested
+pair_test g i j = result_and (node_test g i) (node_test g j)
+
+-- the numbers of these refusals, 0 for none
+abbrev pub graph_refusal : NetworkGraph → ℕ
+graph_refusal g = answer_of (graph_test g)
+
+abbrev pub position_refusal : ℕ → ℕ → ℕ
+position_refusal n i = answer_of (position_test n i)
 
 -- the row of a position
-unfoldable pub row_of : NetworkGraph → ℕ → NeighborRow
-row_of g i =
-    let k = node_refusal g i in
-    either (eqb k 0) (record { refusal = 0; marks = get_or g.adj i 0 }) (record { refusal = k; marks = 0 })
+abbrev pub row_of : NetworkGraph → ℕ → Result ℕ Refusal
+row_of g i = result_and (node_test g i) (Ok (get_or g.adj i 0))
 
 -- the neighbours of a position in rising order, how many there are, and zeros behind them
 unfoldable pub list_of : ℕ → ℕ → NeighborList
-list_of m n = record { refusal = 0; count = length (members m n); at = sets (replicate 64 0) 0 (members m n) }
+list_of m n = record { count = length (members m n); at = sets (replicate 64 0) 0 (members m n) }
 
-unfoldable pub neighbors_of : NetworkGraph → ℕ → NeighborList
-neighbors_of g i =
-    let k = node_refusal g i in
-    either (eqb k 0) (list_of (get_or g.adj i 0) 64) (record { refusal = k; count = 0; at = replicate 64 0 })
+abbrev pub neighbors_of : NetworkGraph → ℕ → Result NeighborList Refusal
+neighbors_of g i = result_and (node_test g i) (Ok (list_of (get_or g.adj i 0) 64))
 
 -- Position i has a link to position j: both are positions of the graph, and i's row has j's mark.
 unfoldable pub linked : NetworkGraph → ℕ → ℕ → Bool
 linked g i j = (ltb i g.n && ltb j g.n) && has (get_or g.adj i 0) j
-
--- the refusal of a call on two positions, and the answer of a test where there is none
-unfoldable pub pair_refusal : NetworkGraph → ℕ → ℕ → ℕ
-pair_refusal g i j = either (eqb (node_refusal g i) 0) (node_refusal g j) (node_refusal g i)
-
-abbrev pub test_of : ℕ → Bool → LinkTest
-test_of k t = either (eqb k 0) (record { refusal = 0; holds = t }) (record { refusal = k; holds = false })

@@ -1,12 +1,12 @@
 -- RULES 2.3: the diameter, said by paths, and the same as a number that computes. Assumes nothing.
-use Rattle.std.specs.Prelude.{true, ◌||◌, ◌&&◌, ◌≡◌, ℕ, zero, suc, ◌≤◌, ◌<◌, max, eqb}
+use Rattle.std.specs.Prelude.{Bool, true, Result, Ok, ◌||◌, ◌&&◌, ◌≡◌, ℕ, zero, suc, ◌≤◌, ◌<◌, max, eqb}
+use Rattle.std.specs.Result.{result_and}
+use Rattle.limits.specs.declared.refusals.Refusal.{Refusal}
 use Rattle.loops.specs.Pick.{either}
 use Rattle.loops.specs.Upto.{upto}
 use Rattle.marks.specs.Marks.{has, marks, any_of}
 use Rattle.graph.specs.declared.network.NetworkGraph.{NetworkGraph}
-use Rattle.graph.specs.declared.network.LinkTest.{LinkTest}
-use Rattle.graph.specs.declared.network.PathLength.{PathLength}
-use Rattle.graph.specs.Links.{linked, graph_refusal, pair_refusal, test_of}
+use Rattle.graph.specs.Links.{linked, graph_test, pair_test}
 
 -- A path from i to j of k links: from a position to itself by no link, and onward by one link more.
 pub data Path (g : NetworkGraph) (i : ℕ) : ℕ → ℕ → Type 0 where
@@ -46,15 +46,12 @@ unfolding farthest upto
 diameter_of g = upto g.n (λ i d. max d (farthest g i g.n)) 0
 
 -- or the refusal of the graph
-unfoldable pub length_of : NetworkGraph → PathLength
-length_of g =
-    either (eqb (graph_refusal g) 0)
-    (record { refusal = 0; links = diameter_of g })
-    (record { refusal = graph_refusal g; links = 0 })
+abbrev pub length_of : NetworkGraph → Result ℕ Refusal
+length_of g = result_and (graph_test g) (Ok (diameter_of g))
 
 -- Some path leads from i to j: it is found within n links, if there is one.
-unfoldable pub reaches_of : NetworkGraph → ℕ → ℕ → LinkTest
-reaches_of g i j = test_of (pair_refusal g i j) (has (reached g i g.n) j)
+abbrev pub reaches_of : NetworkGraph → ℕ → ℕ → Result Bool Refusal
+reaches_of g i j = result_and (pair_test g i j) (Ok (has (reached g i g.n) j))
 
-unfoldable pub has_link_of : NetworkGraph → ℕ → ℕ → LinkTest
-has_link_of g i j = test_of (pair_refusal g i j) (linked g i j)
+abbrev pub has_link_of : NetworkGraph → ℕ → ℕ → Result Bool Refusal
+has_link_of g i j = result_and (pair_test g i j) (Ok (linked g i j))

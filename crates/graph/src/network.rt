@@ -1,64 +1,37 @@
 // RULES 2. Ported from network.rs: who hears whom. A link from i to j says that j hears i. It may have no counterpart,
 // and a position may hear itself.
-// Every call answers with the refusal's number (RULES 15) beside its value (0: none); a refused call's value is empty.
-ghost use Rattle.std.specs.Prelude.{◌≡◌, ◌||◌, ◌&&◌, ℕ, ◌+◌, ◌/◌, ◌≤◌, ◌<◌, max, length, get_or, set, eqb, ltb};
+// A graph's fields are open, so its numbers may be any: every call tests them, and answers with what it refuses.
+ghost use Rattle.std.specs.Prelude.{◌≡◌, ◌||◌, ◌&&◌, ℕ, ◌+◌, ◌/◌, ◌≤◌, ◌<◌, length, get_or, set, eqb, ltb, IfOk};
+ghost use Rattle.std.specs.Result.{result_and};
 ghost use Rattle.limits.specs.Limits.{positions};
 ghost use Rattle.loops.specs.Pick.{either};
 ghost use Rattle.loops.specs.Table.{filled};
 ghost use Rattle.marks.specs.Marks.{has, marks, all_of};
 ghost use Rattle.graph.specs.declared.network.Topology.TheVariants.{FullMesh, Line, Ring, Tree};
-ghost use Rattle.graph.specs.Links.{graph_by, built_of, no_graph, ahead_of, link_of, ring_rule, grid_rule, tree_rule, grid_of, topology_of, plain_of, inside, rows_of, graph_refusal, node_refusal, pair_refusal, row_of, list_of, neighbors_of};
+ghost use Rattle.graph.specs.Links.{graph_by, size_test, built_of, ahead_of, link_of, ring_rule, grid_rule, tree_rule, grid_of, topology_of, plain_of, inside, all_inside, rows_of, graph_test, node_test, pair_test, row_of, list_of, neighbors_of};
 ghost use Rattle.graph.specs.Paths.{Longest, reached, diameter_of, length_of, has_link_of, reaches_of};
 ghost use Rattle.graph.specs.Waves.{leads, step_of, wave_of};
 
 use super::sets;
-use limits::refusals;
+use limits::refusals::Refusal;
 
 // n positions; row i holds a mark for each position that hears i.
 #[derive(Clone, Copy)]
 pub struct NetworkGraph {
     pub n: usize,
-    pub adj: [u64; 64],
+    pub adj: [u64; limits::POSITIONS],
 }
 
-// The answer of a call that makes a graph.
-#[derive(Clone, Copy)]
-pub struct Built {
-    pub refusal: u64,
-    pub graph: NetworkGraph,
-}
-
-// The row of a position: a mark for each position that hears it.
-#[derive(Clone, Copy)]
-pub struct NeighborRow {
-    pub refusal: u64,
-    pub marks: u64,
-}
-
-// The neighbours of a position in rising order, with zeros behind the first `count`.
+// The neighbours of a position in rising order, with zeros behind the first `count`. Kept as an array with its length
+// beside it: there is no heap, and C takes both.
 #[derive(Clone, Copy)]
 pub struct NeighborList {
-    pub refusal: u64,
     pub count: usize,
-    pub at: [u64; 64],
-}
-
-// The answer of a test on two positions.
-#[derive(Clone, Copy)]
-pub struct LinkTest {
-    pub refusal: u64,
-    pub holds: bool,
-}
-
-// How many links a path has.
-#[derive(Clone, Copy)]
-pub struct PathLength {
-    pub refusal: u64,
-    pub links: usize,
+    pub at: [u64; limits::POSITIONS],
 }
 
 // The five shapes, each with what its rule needs.
-#[derive(Clone, Copy)]
+#[derive(Clone, Copy, Debug, PartialEq, Eq)]
 pub enum Topology {
     FullMesh,
     Line,
@@ -173,10 +146,8 @@ fn row_by(t: Topology, n: usize, i: usize) -> u64
     ensures { result ≡ marks n (link_of t n i) }
 {
     let mut m: u64 = 0;
-    let mut j: usize = 0;
-    while j < n {
+    for j in 0..n {
         m = mark_if(m, j, has_pair(t, n, i, j));
-        j += 1;
     }
     m
 }
@@ -185,66 +156,52 @@ fn graph_by(t: Topology, n: usize) -> NetworkGraph
     requires { n ≤ positions }
     ensures { result ≡ graph_by n (link_of t n) }
 {
-    let mut adj = [0u64; 64];
-    let mut i: usize = 0;
-    while i < n {
+    let mut adj = [0u64; limits::POSITIONS];
+    for i in 0..n {
         adj[i] = row_by(t, n, i);
-        i += 1;
     }
     NetworkGraph { n, adj }
 }
 
-fn refused(refusal: u64) -> Built
-    ensures { result ≡ record { refusal = refusal; graph = no_graph } }
-{
-    Built {
-        refusal,
-        graph: NetworkGraph {
-            n: 0,
-            adj: [0u64; 64],
-        },
-    }
-}
-
-fn build(t: Topology, n: usize) -> Built
-    ensures { result ≡ built_of n (link_of t n) }
+// 1 to 64 positions.
+pub fn check_size(n: usize) -> Result<(), Refusal>
+    ensures { result ≡ size_test n }
 {
     if n == 0 {
-        return refused(refusals::BAD_POSITIONS);
+        return Err(Refusal::BadPositions);
     }
     if n > limits::POSITIONS {
-        return refused(refusals::BAD_POSITIONS);
+        return Err(Refusal::BadPositions);
     }
-    Built {
-        refusal: 0,
-        graph: graph_by(t, n),
-    }
+    Ok(())
+}
+
+#[tactic(auto, using(crate::proofs::Rules::size_parts))]
+fn build(t: Topology, n: usize) -> Result<NetworkGraph, Refusal>
+    ensures { result ≡ built_of n (link_of t n) }
+{
+    check_size(n)?;
+    Ok(graph_by(t, n))
 }
 
 // Every mark of the row is below n.
 fn row_inside(row: u64, n: usize) -> bool
     ensures { result ≡ inside n row }
 {
-    let stray = sets::difference(row, sets::first_marks(n));
-    if stray == 0 {
-        return true;
-    }
-    false
+    sets::difference(row, sets::first_marks(n)) == 0
 }
 
 // Whether the first n rows have no mark at n or above.
-fn rows_inside(rows: &[u64], n: usize) -> bool
+fn check_rows(rows: &[u64], n: usize) -> Result<(), Refusal>
     requires { n ≤ length rows.now }
-    ensures { result ≡ all_of n (λ i. inside n (get_or rows.now i 0)) }
+    ensures { result ≡ all_inside n rows.now }
 {
-    let mut i: usize = 0;
-    while i < n {
+    for i in 0..n {
         if !row_inside(rows[i], n) {
-            return false;
+            return Err(Refusal::BadLinks);
         }
-        i += 1;
     }
-    true
+    Ok(())
 }
 
 fn copy_rows(rows: &[u64]) -> NetworkGraph
@@ -252,80 +209,45 @@ fn copy_rows(rows: &[u64]) -> NetworkGraph
     ensures { result ≡ record { n = length rows.now; adj = filled 0 64 (length rows.now) (λ i. get_or rows.now i 0) } }
 {
     let n = rows.len();
-    let mut adj = [0u64; 64];
-    let mut i: usize = 0;
-    while i < n {
-        adj[i] = rows[i];
-        i += 1;
-    }
+    let mut adj = [0u64; limits::POSITIONS];
+    adj[..n].copy_from_slice(rows);
     NetworkGraph { n, adj }
 }
 
-fn plain(t: Topology, n: usize, argument: usize) -> Built
+fn plain(t: Topology, n: usize, argument: usize) -> Result<NetworkGraph, Refusal>
     ensures { result ≡ plain_of t n argument }
 {
     if argument != 0 {
-        return refused(refusals::BAD_LINKS);
+        return Err(Refusal::BadLinks);
     }
     build(t, n)
 }
 
-// Refusals 2, 3 and 8 of a call on position i of a graph that somebody may have put together by hand.
-fn node_refusal(g: NetworkGraph, i: usize) -> u64
-    ensures { result ≡ node_refusal g i }
-{
-    let refusal = g.refusal();
-    if refusal != 0 {
-        return refusal;
-    }
-    if i >= g.n {
-        return refusals::NO_POSITION;
-    }
-    0
-}
-
-fn pair_refusal(g: NetworkGraph, i: usize, j: usize) -> u64
-    ensures { result ≡ pair_refusal g i j }
-{
-    let first = node_refusal(g, i);
-    if first != 0 {
-        return first;
-    }
-    node_refusal(g, j)
-}
-
-// The list with j behind its entries, if m has mark j.
-fn note_mark(l: NeighborList, m: u64, j: usize) -> NeighborList
-    requires { l.count < 64 }
-    ensures { result ≡ either (has m j) (record { refusal = l.refusal; count = l.count + 1; at = set l.at l.count j }) l }
-{
-    if !sets::is_marked(m, j) {
-        return l;
-    }
-    let count = l.count;
-    let mut at = l.at;
-    at[count] = j as u64;
-    NeighborList {
-        refusal: l.refusal,
-        count: count + 1,
-        at,
+impl NeighborList {
+    // j behind the entries.
+    fn push(&mut self, j: usize)
+        requires { self.old.count < 64 }
+        ensures { self.new ≡ record { count = self.old.count + 1; at = set self.old.at self.old.count j } }
+    {
+        self.at[self.count] = j as u64;
+        self.count += 1;
     }
 }
 
+// The marks of a word in rising order.
 fn list_marks(m: u64) -> NeighborList
     ensures { result ≡ list_of m 64 }
 {
-    let mut l = NeighborList {
-        refusal: 0,
+    let mut list = NeighborList {
         count: 0,
-        at: [0u64; 64],
+        at: [0u64; limits::POSITIONS],
     };
-    let mut j: usize = 0;
-    while j < 64 {
-        l = note_mark(l, m, j);
-        j += 1;
+    for j in 0..limits::POSITIONS {
+        if sets::is_marked(m, j) {
+            list.push(j);
+        }
     }
-    l
+    list
 }
 
 // A wave that goes out from one position, a link a step: where it arrived last, where it has not been, and the last
@@ -341,12 +263,9 @@ struct Wave {
 fn spread(adj: &[u64; 64], front: u64) -> u64
     ensures { (j : ℕ) → has result j ≡ leads adj.now front j }
 {
-    let mut left = front;
     let mut out: u64 = 0;
-    while left != 0 {
-        let i = sets::lowest_mark(left);
+    for i in sets::iter(front) {
         out = sets::union(out, adj[i]);
-        left = sets::without_mark(left, i);
     }
     out
 }
@@ -386,24 +305,13 @@ fn wave_from(adj: &[u64; 64], n: usize, start: usize, steps: usize) -> Wave
         unseen: sets::without_mark(sets::first_marks(n), start),
         links: 0,
     };
-    let mut k: usize = 0;
-    while k < steps {
+    for k in 0..steps {
         if w.front == 0 {
             return w;
         }
         w = wave_step(adj, w, k);
-        k += 1;
     }
     w
-}
-
-fn larger(a: usize, b: usize) -> usize
-    ensures { result ≡ max a b }
-{
-    if a < b {
-        return b;
-    }
-    a
 }
 
 fn longest_path(adj: &[u64; 64], n: usize) -> usize
@@ -411,11 +319,8 @@ fn longest_path(adj: &[u64; 64], n: usize) -> usize
     ensures { result ≡ diameter_of (record { n = n; adj = adj.now }) }
 {
     let mut d: usize = 0;
-    let mut i: usize = 0;
-    while i < n {
-        let w = wave_from(adj, n, i, n);
-        d = larger(d, w.links);
-        i += 1;
+    for i in 0..n {
+        d = d.max(wave_from(adj, n, i, n).links);
     }
     d
 }
@@ -425,208 +330,155 @@ fn joined(adj: &[u64; 64], n: usize, i: usize, j: usize) -> bool
     requires { (n ≤ positions) × (i < n) × (j < n) }
     ensures { result ≡ has (reached (record { n = n; adj = adj.now }) i n) j }
 {
-    let w = wave_from(adj, n, i, n);
-    let unseen = w.unseen;
-    if sets::is_marked(unseen, j) {
-        return false;
-    }
-    true
+    !sets::is_marked(wave_from(adj, n, i, n).unseen, j)
 }
 
 impl NetworkGraph {
     // Each hears each other.
-    pub fn full_mesh(n: usize) -> Built
+    pub fn full_mesh(n: usize) -> Result<NetworkGraph, Refusal>
         ensures { result ≡ built_of n (link_of FullMesh n) }
     {
         build(Topology::FullMesh, n)
     }
 
     // Each hears the one before and the one behind it.
-    pub fn line(n: usize) -> Built
+    pub fn line(n: usize) -> Result<NetworkGraph, Refusal>
         ensures { result ≡ built_of n (link_of Line n) }
     {
         build(Topology::Line, n)
     }
 
     // A line with its ends joined, where there are more than two.
-    pub fn ring(n: usize) -> Built
+    pub fn ring(n: usize) -> Result<NetworkGraph, Refusal>
         ensures { result ≡ built_of n (link_of Ring n) }
     {
         build(Topology::Ring, n)
     }
 
     // n positions in so many rows, which must divide n.
-    pub fn grid(n: usize, rows: usize) -> Built
+    pub fn grid(n: usize, rows: usize) -> Result<NetworkGraph, Refusal>
         ensures { result ≡ grid_of n rows }
     {
-        if n == 0 {
-            return refused(refusals::BAD_POSITIONS);
-        }
-        if n > limits::POSITIONS {
-            return refused(refusals::BAD_POSITIONS);
-        }
+        check_size(n)?;
         if rows == 0 {
-            return refused(refusals::BAD_LINKS);
+            return Err(Refusal::BadLinks);
         }
         if n % rows != 0 {
-            return refused(refusals::BAD_LINKS);
+            return Err(Refusal::BadLinks);
         }
         build(Topology::Grid(n / rows), n)
     }
 
     // Each has up to so many children; any number will do.
-    pub fn tree(n: usize, branching_factor: usize) -> Built
+    pub fn tree(n: usize, branching_factor: usize) -> Result<NetworkGraph, Refusal>
         ensures { result ≡ built_of n (link_of (Tree branching_factor) n) }
     {
         build(Topology::Tree(branching_factor), n)
     }
 
     // The topology with this number (RULES 2.2), for n positions.
-    pub fn from_topology(topology: u64, n: usize, argument: usize) -> Built
+    #[tactic(auto, unfolding(crate::specs::Links::topology_of))]
+    pub fn from_topology(topology: u64, n: usize, argument: usize) -> Result<NetworkGraph, Refusal>
         ensures { result ≡ topology_of topology n argument }
     {
-        if n == 0 {
-            return refused(refusals::BAD_POSITIONS);
-        }
-        if n > limits::POSITIONS {
-            return refused(refusals::BAD_POSITIONS);
-        }
+        check_size(n)?;
         match topology {
             1 => plain(Topology::FullMesh, n, argument),
             2 => plain(Topology::Line, n, argument),
             3 => plain(Topology::Ring, n, argument),
             4 => NetworkGraph::grid(n, argument),
             5 => NetworkGraph::tree(n, argument),
-            _ => refused(refusals::BAD_LINKS),
+            _ => Err(Refusal::BadLinks),
         }
     }
 
     // The graph of these rows, one for each position.
-    pub fn from_rows(rows: &[u64]) -> Built
+    #[tactic(auto, using(crate::proofs::Rules::size_parts), unfolding(crate::specs::Links::rows_of))]
+    pub fn from_rows(rows: &[u64]) -> Result<NetworkGraph, Refusal>
         ensures { result ≡ rows_of rows.now }
     {
-        let n = rows.len();
-        if n == 0 {
-            return refused(refusals::BAD_POSITIONS);
-        }
-        if n > limits::POSITIONS {
-            return refused(refusals::BAD_POSITIONS);
-        }
-        if !rows_inside(rows, n) {
-            return refused(refusals::BAD_LINKS);
-        }
-        Built {
-            refusal: 0,
-            graph: copy_rows(rows),
-        }
+        check_size(rows.len())?;
+        check_rows(rows, rows.len())?;
+        Ok(copy_rows(rows))
     }
 
-    // What is wrong with a graph that somebody put together: 2 and 3, and 0 for nothing.
-    pub fn refusal(self) -> u64
-        ensures { result ≡ graph_refusal self }
+    // What is wrong with a graph that somebody put together: 2 and 3.
+    #[tactic(auto, using(crate::proofs::Rules::size_parts), unfolding(crate::specs::Links::graph_test))]
+    pub fn check(&self) -> Result<(), Refusal>
+        ensures { result ≡ graph_test self.now }
     {
-        let n = self.n;
-        if n == 0 {
-            return refusals::BAD_POSITIONS;
-        }
-        if n > limits::POSITIONS {
-            return refusals::BAD_POSITIONS;
-        }
-        let adj = self.adj;
-        if !rows_inside(&adj, n) {
-            return refusals::BAD_LINKS;
-        }
-        0
+        check_size(self.n)?;
+        check_rows(&self.adj, self.n)
     }
 
-    pub fn num_nodes(self) -> usize
-        ensures { result ≡ self.n }
+    // Refusals 2, 3 and 8 of a call on position i.
+    #[tactic(auto, unfolding(crate::specs::Links::node_test))]
+    fn check_node(&self, i: usize) -> Result<(), Refusal>
+        ensures { result ≡ node_test self.now i }
+    {
+        self.check()?;
+        if i >= self.n {
+            return Err(Refusal::NoPosition);
+        }
+        Ok(())
+    }
+
+    fn check_pair(&self, i: usize, j: usize) -> Result<(), Refusal>
+        ensures { result ≡ pair_test self.now i j }
+    {
+        self.check_node(i)?;
+        self.check_node(j)
+    }
+
+    pub fn num_nodes(&self) -> usize
+        ensures { result ≡ self.now.n }
     {
         self.n
     }
 
     // Who hears i, as a set of marks.
-    pub fn row(self, i: usize) -> NeighborRow
-        ensures { result ≡ row_of self i }
+    #[tactic(auto, using(crate::proofs::Rules::node_parts))]
+    pub fn row(&self, i: usize) -> Result<u64, Refusal>
+        ensures { result ≡ row_of self.now i }
     {
-        let refusal = node_refusal(self, i);
-        if refusal != 0 {
-            return NeighborRow { refusal, marks: 0 };
-        }
-        let adj = self.adj;
-        NeighborRow {
-            refusal: 0,
-            marks: adj[i],
-        }
+        self.check_node(i)?;
+        Ok(self.adj[i])
     }
 
     // Who hears i, in rising order.
-    pub fn neighbors(self, i: usize) -> NeighborList
-        ensures { result ≡ neighbors_of self i }
+    #[tactic(auto, using(crate::proofs::Rules::node_parts))]
+    pub fn neighbors(&self, i: usize) -> Result<NeighborList, Refusal>
+        ensures { result ≡ neighbors_of self.now i }
     {
-        let refusal = node_refusal(self, i);
-        if refusal != 0 {
-            return NeighborList {
-                refusal,
-                count: 0,
-                at: [0u64; 64],
-            };
-        }
-        let adj = self.adj;
-        list_marks(adj[i])
+        self.check_node(i)?;
+        Ok(list_marks(self.adj[i]))
     }
 
     // Whether j hears i.
-    pub fn has_link(self, i: usize, j: usize) -> LinkTest
-        ensures { result ≡ has_link_of self i j }
+    #[tactic(auto, using(crate::proofs::Rules::node_parts, crate::proofs::Answers::linked_row))]
+    pub fn has_link(&self, i: usize, j: usize) -> Result<bool, Refusal>
+        ensures { result ≡ has_link_of self.now i j }
     {
-        let refusal = pair_refusal(self, i, j);
-        if refusal != 0 {
-            return LinkTest {
-                refusal,
-                holds: false,
-            };
-        }
-        let adj = self.adj;
-        LinkTest {
-            refusal: 0,
-            holds: sets::is_marked(adj[i], j),
-        }
+        self.check_pair(i, j)?;
+        Ok(sets::is_marked(self.adj[i], j))
     }
 
     // Whether what i sends can come to j, by however many links.
-    pub fn reaches(self, i: usize, j: usize) -> LinkTest
-        ensures { result ≡ reaches_of self i j }
+    #[tactic(auto, using(crate::proofs::Rules::node_parts))]
+    pub fn reaches(&self, i: usize, j: usize) -> Result<bool, Refusal>
+        ensures { result ≡ reaches_of self.now i j }
     {
-        let n = self.n;
-        let refusal = pair_refusal(self, i, j);
-        if refusal != 0 {
-            return LinkTest {
-                refusal,
-                holds: false,
-            };
-        }
-        let adj = self.adj;
-        LinkTest {
-            refusal: 0,
-            holds: joined(&adj, n, i, j),
-        }
+        self.check_pair(i, j)?;
+        Ok(joined(&self.adj, self.n, i, j))
     }
 
     // The longest shortest path over all ordered pairs that a path joins.
-    pub fn diameter(self) -> PathLength
-        ensures value { result ≡ length_of self }
-        ensures longest { result.refusal ≡ 0 → Longest self result.links }
+    #[tactic(auto, using(crate::proofs::Rules::graph_parts))]
+    pub fn diameter(&self) -> Result<usize, Refusal>
+        ensures value { result ≡ length_of self.now }
+        ensures longest { IfOk result (Longest self.now) }
     {
-        let refusal = self.refusal();
-        if refusal != 0 {
-            return PathLength { refusal, links: 0 };
-        }
-        let n = self.n;
-        let adj = self.adj;
-        PathLength {
-            refusal: 0,
-            links: longest_path(&adj, n),
-        }
+        self.check()?;
+        Ok(longest_path(&self.adj, self.n))
     }
 }

@@ -1,7 +1,8 @@
 // RULES none. Sets of up to 64 marks, each in one word: mark i is binary digit i. Contracts speak of membership alone,
 // and hold for every argument: an index of 64 or more is no member, and is not set.
 ghost use Rattle.std.specs.Prelude.{◌≡◌, ◌||◌, ◌&&◌, not, ℕ, eqb, ltb};
-ghost use Rattle.marks.specs.Marks.{has, count_of, all_of, Lowest};
+ghost use Rattle.std.specs.Iterator.{at_most};
+ghost use Rattle.marks.specs.Marks.{has, count_of, all_of, Lowest, TakesLowest};
 
 pub fn is_marked(m: u64, i: usize) -> bool
     ensures { result ≡ has m i }
@@ -54,7 +55,7 @@ pub fn first_marks(n: usize) -> u64
     ensures { (j : ℕ) → has result j ≡ (ltb j n && ltb j 64) }
 {
     if n >= 64 {
-        return 18446744073709551615;
+        return u64::MAX;
     }
     (1 << n) - 1
 }
@@ -66,11 +67,7 @@ pub fn all_marked(m: u64, n: usize) -> bool
     if n > 64 {
         return false;
     }
-    let missing = difference(first_marks(n), m);
-    if missing == 0 {
-        return true;
-    }
-    false
+    difference(first_marks(n), m) == 0
 }
 
 pub fn count_marks(m: u64) -> usize
@@ -84,4 +81,31 @@ pub fn lowest_mark(m: u64) -> usize
     ensures { Lowest m result }
 {
     u64::trailing_zeros(m) as usize
+}
+
+// The marks of a word, the lowest first: the word of those that are still to come.
+#[derive(Clone, Copy)]
+pub struct Marks(u64);
+
+pub fn iter(m: u64) -> Marks
+    ensures { result.0 ≡ m }
+{
+    Marks(m)
+}
+
+impl Iterator for Marks {
+    type Item = usize;
+
+    ghost next_gives = { λ s r t. TakesLowest s.0 r t.0 };
+
+    ghost remaining = { λ s. at_most (count_of s.0 64) };
+
+    fn next(&mut self) -> Option<usize> {
+        if self.0 == 0 {
+            return None;
+        }
+        let i = lowest_mark(self.0);
+        self.0 = without_mark(self.0, i);
+        Some(i)
+    }
 }

@@ -1,6 +1,6 @@
 -- RULES 15: the numbers of the refusals. What each is for is said where it is told; src/refusals.rt has them in
 -- words. 0 is no refusal. Assumes nothing: these are definitions.
-use Rattle.std.specs.Prelude.{ℕ, Result, Ok, Err}
+use Rattle.std.specs.Prelude.{Bool, true, false, ℕ, Result, Ok, Err}
 use Rattle.limits.specs.declared.refusals.Refusal.{Refusal}
 use Rattle.limits.specs.declared.refusals.Refusal.TheVariants.{BadLine, BadPositions, BadLinks, BadLoss, NoRepeats}
 use Rattle.limits.specs.declared.refusals.Refusal.TheVariants.{NoInterval, ManyTransactions, NoPosition, BadPacket}
@@ -81,3 +81,22 @@ number_of RowsShort = rows_short
 abbrev pub answer_of : {A : Type 0} → Result A Refusal → ℕ
 answer_of (Ok _) = 0
 answer_of (Err refusal) = number_of refusal
+
+-- what a test answers: nothing, or why it refuses
+abbrev pub Tested : Type 0
+Tested = Result (Unit {0}) Refusal
+
+-- refused, unless the test says yes
+abbrev pub holds_or : Bool → Refusal → Tested
+holds_or true refusal = Ok tt
+holds_or false refusal = Err refusal
+
+-- one call after the other: the first refusal is told
+abbrev pub and_then : {A B : Type 0} → Result A Refusal → (A → Result B Refusal) → Result B Refusal
+and_then (Ok a) f = f a
+and_then (Err refusal) f = Err refusal
+
+-- What was lent to a call holds what f makes of its value, and stays as it was if the call is refused.
+abbrev pub after : {A B : Type 0} → Result A Refusal → (A → B) → B → B
+after (Ok a) f old = f a
+after (Err refusal) f old = old
