@@ -8,10 +8,8 @@ use native.Mathlib.Numerals.{add-one}
 use native.Mathlib.Omega.{arith}
 use lib.Dec.{eqb, ltb, leb}
 use lib.ListN.{length, get_or, set, drop, replicate, length-append}
-use lib.Seq.{sets}
-use borrow.Author.Tests.{eq-eqb, ne_eqb, eqb-true, eqb-false, lt-ltb, le-ltb, ltb-true, le-leb, leb-true, lt-leb}
+use borrow.Author.Tests.{eq-eqb, eqb-true, eqb-false, lt-ltb, le-ltb, ltb-true, le-leb, leb-true, lt-leb}
 use Rattle.std.specs.Prelude.{Ok}
-use Rattle.std.specs.Result.{result_and}
 use Rattle.limits.specs.Refusals.{holds_or}
 use Rattle.limits.proofs.Tests.{held, first_held, second_held}
 use Rattle.limits.specs.declared.refusals.Refusal.TheVariants.{BadPositions, NoPosition}

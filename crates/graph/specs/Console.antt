@@ -1,5 +1,5 @@
 -- RULES 17. How a call for C answers: a refusal number, and what was lent. Assumes nothing.
-use Rattle.std.specs.Prelude.{Bool, true, false, ℕ, List, length, eqb, leb, Result, Ok}
+use Rattle.std.specs.Prelude.{Bool, true, false, ℕ, List, eqb, leb, Result, Ok}
 use Rattle.std.specs.Result.{result_and}
 use Rattle.limits.specs.Limits.{positions}
 use Rattle.limits.specs.Refusals.{Tested, holds_or, and_then}

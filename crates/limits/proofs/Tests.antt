@@ -1,5 +1,5 @@
 -- What it means that a test, or one behind another, refuses nothing. Assumes nothing.
-use Rattle.std.proofs.Common.{◌≡◌, refl, sym, arith, ℕ, Bool, true, false, Result, Ok, Err}
+use Rattle.std.proofs.Common.{◌≡◌, refl, arith, ℕ, Bool, true, false, Result, Ok, Err}
 use Rattle.std.specs.Result.{result_and}
 use Rattle.limits.specs.Refusals.{Tested, holds_or}
 use Rattle.limits.specs.declared.refusals.Refusal.{Refusal}

@@ -1,4 +1,4 @@
-use Rattle.std.proofs.Common.{arith, sym, ◌∙◌}
+use Rattle.std.proofs.Common.{sym, ◌∙◌}
 use lib.Seq.{length-take-le}
 use Rattle.graph.proofs.console.put_all.Goals as goal
 

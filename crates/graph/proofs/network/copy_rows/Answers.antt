@@ -1,5 +1,4 @@
-use Rattle.std.proofs.Common.{◌≡◌, List, ℕ, ap, ◌∙◌}
-use Rattle.graph.specs.declared.network.NetworkGraph.{NetworkGraph}
+use Rattle.std.proofs.Common.{List, ℕ, ap, ◌∙◌}
 use Rattle.std.proofs.Common.{◌++◌, drop, length, replicate}
 use Rattle.graph.proofs.Rules.{copied_is}
 use Rattle.graph.proofs.network.copy_rows.Goals as goal

@@ -1,7 +1,6 @@
 use mathlib.Core.Path.{◌≡◌, subst, sym, ap, ◌∙◌}
 use mathlib.Core.Bool.{Bool, not, ◌&&◌}
 use Prim.Native.Nat.{ℕ, ◌+◌, ◌≤◌, ◌<◌, ◌-◌}
-use native.Mathlib.Nat.{le_antisymm}
 use native.Mathlib.Numerals.{add-one}
 use native.Mathlib.Omega.{arith}
 use lib.Dec.{eqb}
@@ -31,6 +30,3 @@ returns-then-w-eq0 c = ended (record { n = c.args.n; adj = c.args.adj.now }) _ _
 
 pub loop-k-preserved : goal.loop-k-preserved
 loop-k-preserved c = (omega arith, further (record { n = c.args.n; adj = c.args.adj.now }) _ _ _ _ c.loop-k.invariant.1 c.wave_step-w.ensures)
-
-pub returns : goal.returns
-returns c = subst (λ (m : ℕ). c.loop-k.w ≡ wave_of (record { n = c.args.n; adj = c.args.adj.now }) c.args.start m) (le_antisymm c.loop-k.invariant.0 c.loop-k-test.false) c.loop-k.invariant.1
