@@ -14,7 +14,7 @@ use borrow.Author.Tests.{eq-eqb, eqb-true, lt-ltb, le-leb}
 use Rattle.loops.specs.Pick.{either}
 use Rattle.marks.specs.Sets.{and_true, true_and}
 use Rattle.texts.specs.Put.{written}
-use Rattle.graph.specs.Links.{position_refusal}
+use Rattle.graph.specs.Links.{size_test, position_test, position_refusal}
 use Rattle.packets.specs.Packets.{pipeline_text, limits, pipeline_within, ValidPipeline}
 use Rattle.packets.specs.Writing.{wrote_of, left_of}
 use Rattle.packets.specs.declared.TwoPcPacket.{TwoPcPacket}
@@ -126,7 +126,7 @@ written_by n true q out v l =
     (record { answers = refl; text = take_at t (drop (0 + length t) out) (0 + length t) (omega arith) })
 
 there : (n v : ℕ) → v < n → n ≤ 64 → position_refusal n v ≡ 0
-unfolding position_refusal
+unfolding position_test size_test
 there n v h l = rw (lt-ltb 0 n (omega arith), le-leb n 64 l, lt-ltb v n h)
 
 module _ (r : Room) (held : HeldValid r) where

@@ -9,7 +9,7 @@ use lib.Seq.{take_at}
 use native.Mathlib.Omega.{arith}
 use borrow.Author.Tests.{lt-ltb, le-leb}
 use Rattle.texts.specs.Put.{written}
-use Rattle.graph.specs.Links.{position_refusal}
+use Rattle.graph.specs.Links.{size_test, position_test, position_refusal}
 use Rattle.packets.specs.Packets.{ce_text, limits, ce_within, ValidCe}
 use Rattle.packets.specs.Writing.{wrote_of, left_of}
 use Rattle.packets.specs.declared.CeTwoPcPacket.{CeTwoPcPacket}
@@ -49,7 +49,7 @@ written_by p Packet out v l =
     (record { answers = refl; text = take_at (ce_text p) (drop (0 + length (ce_text p)) out) (0 + length (ce_text p)) (omega arith) })
 
 there : (n v : ℕ) → v < n → n ≤ 64 → position_refusal n v ≡ 0
-unfolding position_refusal
+unfolding position_test size_test
 there n v h l = rw (lt-ltb 0 n (omega arith), le-leb n 64 l, lt-ltb v n h)
 
 -- ---- a moment of a room

@@ -5,7 +5,8 @@ use Rattle.std.specs.Float.{binary64}
 use Rattle.std.specs.Float.Ieee.{of_bits, lt}
 use Rattle.limits.specs.Limits.{last_slot, last_term}
 use Rattle.limits.specs.Refusals.{bad_loss}
-use Rattle.graph.specs.Links.{is_size, rows_of, graph_refusal, topology_of}
+use Rattle.std.specs.Result.{result_unwrap_or}
+use Rattle.graph.specs.Links.{is_size, no_graph, rows_of, graph_refusal, topology_of}
 use Rattle.merges.specs.Votes.{no_of}
 use Rattle.merges.specs.Merging.{payload_of, Noes, merge_of, redundant, network_goal_of, outcome_of}
 use Rattle.packets.specs.declared.TwoPcPhase.TheVariants.{Prepare, Committed}
@@ -63,7 +64,7 @@ plain given slots =
 -- rooms of them, with rows and a bound that no round reaches
 abbrev pub asking : RoomKind → Settings → ℕ → Asked
 asking kind s transactions =
-    record { kind = kind; graph = (rows_of pair).graph; settings = s; transactions = transactions; term = 0; interval = last_slot; bound = last_slot }
+    record { kind = kind; graph = result_unwrap_or (rows_of pair) no_graph; settings = s; transactions = transactions; term = 0; interval = last_slot; bound = last_slot }
 
 -- a capture room of them with rounds of 20 slots, the proposal of position 0, and one round: no words, a buffer of one
 -- row
@@ -116,7 +117,7 @@ abbrev pub recovery_room : Opening
 recovery_room =
     open_of (record {
       kind = kinds.Capture;
-      graph = (rows_of (0 ∷ 1 ∷ [])).graph;
+      graph = result_unwrap_or (rows_of (0 ∷ 1 ∷ [])) no_graph;
       settings =
           record {
             loss_rate = of_bits binary64 0;

@@ -11,10 +11,14 @@ use lib.ListN.{length, get_or}
 use borrow.Author.Tests.{eq-eqb, ne_eqb, le-leb, lt-leb}
 use Rattle.limits.specs.Limits.{last_slot}
 use Rattle.limits.specs.Refusals.{bad_positions, bad_links, bad_loss, no_interval, no_position, bad_packet}
+use Rattle.std.specs.Result.{result_and}
+use Rattle.limits.specs.declared.refusals.Refusal.TheVariants.{BadPositions, BadLinks}
+use Rattle.limits.specs.Refusals.{holds_or}
+use Rattle.limits.specs.Refusals.{answer_of as tell}
 use Rattle.limits.specs.Refusals.{too_long, words_short, rows_short}
 use Rattle.loops.specs.Pick.{either}
 use Rattle.marks.specs.Marks.{all_of}
-use Rattle.graph.specs.Links.{is_size, inside, graph_refusal}
+use Rattle.graph.specs.Links.{is_size, inside, size_test, all_inside, graph_test, graph_refusal}
 use Rattle.graph.specs.Console.{first}
 use Rattle.graph.specs.declared.network.NetworkGraph.{NetworkGraph}
 use Rattle.graph.proofs.Entries.{first_here, unless_refused}
@@ -37,24 +41,28 @@ refused_keeps xs ws lent conf initiator r after left a h =
 
 -- ---- a graph is refused by 2 or 3
 
+-- the number that the two tests of a graph come to
+told_by : Bool → Bool → ℕ
+told_by size rows = tell (result_and (holds_or size BadPositions) (holds_or rows BadLinks))
+
 graph_low : (g : NetworkGraph) → graph_refusal g ≤ bad_links
-unfolding graph_refusal
+unfolding graph_test size_test all_inside told_by
 graph_low g = go (is_size g.n) (all_of g.n (λ i. inside g.n (get_or g.adj i 0)))
   where
-    go : (size rows : Bool) → either size (either rows 0 bad_links) bad_positions ≤ bad_links
+    go : (size rows : Bool) → told_by size rows ≤ bad_links
     go true true = omega arith
     go true false = omega arith
     go false rows = omega arith
 
 graph_size : (g : NetworkGraph) → is_size g.n ≡ false → graph_refusal g ≡ bad_positions
-unfolding graph_refusal
+unfolding graph_test size_test
 graph_size g h = rw h
 
 graph_rows : (g : NetworkGraph) → all_of g.n (λ i. inside g.n (get_or g.adj i 0)) ≡ false → 0 < graph_refusal g
-unfolding graph_refusal
+unfolding graph_test size_test all_inside told_by
 graph_rows g h = rw h (go (is_size g.n))
   where
-    go : (size : Bool) → 0 < either size bad_links bad_positions
+    go : (size : Bool) → 0 < told_by size false
     go true = omega arith
     go false = omega arith
 

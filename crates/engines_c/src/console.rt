@@ -1,6 +1,7 @@
 // RULES 17. The entry for the differential runs: a capture round on a state that is a lent list of numbers. The answer
 // is the refusal, 0 for none; a refused call writes nothing.
 ghost use Rattle.std.specs.Prelude.{◌≡◌};
+ghost use Rattle.graph.specs.Links.{graph_refusal};
 ghost use Rattle.engines_c.specs.Console.{asked_of, links_of, conf_of, state_at, counters, put_state, Answered};
 
 use super::{numbers, payloads};
@@ -58,12 +59,18 @@ fn conf_of(
     }
 }
 
+// 2 and 3 of the links, by their numbers.
+fn links_refusal(graph: &NetworkGraph) -> u64
+    ensures { result ≡ graph_refusal graph.now }
+{
+    refusals::answer(graph.check())
+}
+
 // The refusal of a call before its round is run, the lowest first.
 fn asked(xs: &[u64], conf: RoundConf, initiator: usize) -> u64
     ensures { result ≡ asked_of conf initiator xs.now }
 {
-    let graph = conf.graph;
-    let links = graph.refusal();
+    let links = links_refusal(&conf.graph);
     if links != 0 {
         return links;
     }

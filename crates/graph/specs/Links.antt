@@ -19,6 +19,10 @@ use Rattle.graph.specs.declared.network.Topology.TheVariants.{FullMesh, Line, Ri
 unfoldable pub graph_by : ℕ → (ℕ → ℕ → Bool) → NetworkGraph
 graph_by n link = record { n = n; adj = filled 0 64 n (λ i. marks n (link i)) }
 
+-- a graph of no positions
+abbrev pub no_graph : NetworkGraph
+no_graph = record { n = 0; adj = replicate 64 0 }
+
 -- Refusal 2: there are 1 to 64 positions.
 abbrev pub is_size : ℕ → Bool
 is_size n = ltb 0 n && leb n positions

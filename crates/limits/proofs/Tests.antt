@@ -1,8 +1,12 @@
 -- What it means that a test, or one behind another, refuses nothing. Assumes nothing.
-use Rattle.std.proofs.Common.{◌≡◌, refl, arith, ℕ, Bool, true, false, Result, Ok, Err}
+use Rattle.std.proofs.Common.{◌≡◌, ◌<◌, refl, arith, ℕ, Bool, true, false, Result, Ok, Err}
 use Rattle.std.specs.Result.{result_and}
-use Rattle.limits.specs.Refusals.{Tested, holds_or}
+use Rattle.limits.specs.Refusals.{Tested, holds_or, number_of, answer_of}
 use Rattle.limits.specs.declared.refusals.Refusal.{Refusal}
+use Rattle.limits.specs.declared.refusals.Refusal.TheVariants.{BadLine, BadPositions, BadLinks, BadLoss, NoRepeats}
+use Rattle.limits.specs.declared.refusals.Refusal.TheVariants.{NoInterval, ManyTransactions, NoPosition, BadPacket}
+use Rattle.limits.specs.declared.refusals.Refusal.TheVariants.{NoFit, OtherKind, NoProposal, NoTerm, Stopped, TooLong}
+use Rattle.limits.specs.declared.refusals.Refusal.TheVariants.{WordsShort, RowsShort}
 
 pub no_err : {A B : Type 0} {refusal : Refusal} {a : A} → ◌≡◌ {A = Result A Refusal} (Err refusal) (Ok a) → B
 no_err e = absurd (let z : ◌≡◌ {A = ℕ} 0 1 = cc in omega arith)
@@ -18,3 +22,27 @@ first_held (Err refusal) s a e = no_err e
 pub second_held : {A : Type 0} (r : Tested) (s : Result A Refusal) (a : A) → result_and r s ≡ Ok a → s ≡ Ok a
 second_held (Ok x) s a e = e
 second_held (Err refusal) s a e = no_err e
+
+-- a test that tells 0 refuses nothing: no refusal has the number 0
+number_some : (refusal : Refusal) → 0 < number_of refusal
+number_some BadLine = omega arith
+number_some BadPositions = omega arith
+number_some BadLinks = omega arith
+number_some BadLoss = omega arith
+number_some NoRepeats = omega arith
+number_some NoInterval = omega arith
+number_some ManyTransactions = omega arith
+number_some NoPosition = omega arith
+number_some BadPacket = omega arith
+number_some NoFit = omega arith
+number_some OtherKind = omega arith
+number_some NoProposal = omega arith
+number_some NoTerm = omega arith
+number_some Stopped = omega arith
+number_some TooLong = omega arith
+number_some WordsShort = omega arith
+number_some RowsShort = omega arith
+
+pub unrefused : (t : Tested) → answer_of t ≡ 0 → t ≡ Ok tt
+unrefused (Ok x) e = refl
+unrefused (Err refusal) e = absurd (let h = number_some refusal in omega arith)

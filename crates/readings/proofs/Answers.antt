@@ -1,20 +1,20 @@
 -- What an accepted reading knows of its arguments. Assumes nothing.
 use Prim.Native.Nat.{ℕ, ◌<◌}
-use mathlib.Core.Bool.{Bool, true, false, ◌&&◌}
-use mathlib.Core.Path.{◌≡◌, refl}
-use lib.Dec.{ltb, leb}
+use mathlib.Core.Path.{◌≡◌}
+use lib.Dec.{ltb}
 use native.Mathlib.Omega.{arith}
-use borrow.Author.Tests.{leb-true, ltb-true}
-use Rattle.loops.specs.Pick.{either}
-use Rattle.graph.specs.Links.{position_refusal}
+use borrow.Author.Tests.{ltb-true}
+use Rattle.limits.specs.Refusals.{holds_or}
+use Rattle.limits.specs.declared.refusals.Refusal.TheVariants.{NoPosition}
+use Rattle.limits.proofs.Tests.{held, first_held, second_held, unrefused}
+use Rattle.graph.specs.Links.{size_test, position_test, position_refusal}
+use Rattle.graph.proofs.Rules.{size_parts}
 
 -- an accepted position is one of the 64 places
 pub place_below : (n v : ℕ) → position_refusal n v ≡ 0 → v < 64
-unfolding position_refusal
-place_below n v e = go (ltb 0 n) (leb n 64) refl (ltb v n) refl e
-  where
-    go : (x y : Bool) → leb n 64 ≡ y → (z : Bool) → ltb v n ≡ z → ◌≡◌ {A = ℕ} (either (x && y) (either z 0 8) 2) 0 → v < 64
-    go false y p z q w = absurd (let u : ◌≡◌ {A = ℕ} 2 0 = w in omega arith)
-    go true false p z q w = absurd (let u : ◌≡◌ {A = ℕ} 2 0 = w in omega arith)
-    go true true p false q w = absurd (let u : ◌≡◌ {A = ℕ} 8 0 = w in omega arith)
-    go true true p true q w = let a = leb-true n 64 p in let b = ltb-true v n q in omega arith
+unfolding position_test
+place_below n v e =
+    let t = unrefused (position_test n v) e in
+    let size = size_parts n (first_held (size_test n) (holds_or (ltb v n) NoPosition) tt t) in
+    let low = ltb-true v n (held (ltb v n) NoPosition (second_held (size_test n) (holds_or (ltb v n) NoPosition) tt t)) in
+    omega (arith, size.1)

@@ -4,7 +4,9 @@ use borrow.Author.Tests.{eqb-false}
 use Rattle.loops.specs.Pick.{either}
 use Rattle.limits.specs.Limits.{last_slot, last_term}
 use Rattle.limits.specs.Refusals.{bad_positions, bad_links, no_position, other_kind, no_proposal, no_term}
-use Rattle.graph.specs.Links.{is_size, inside, graph_refusal}
+use Rattle.limits.proofs.Tests.{unrefused}
+use Rattle.graph.specs.Links.{is_size, graph_test, graph_refusal}
+use Rattle.graph.proofs.Rules.{graph_parts}
 use Rattle.graph.specs.declared.network.NetworkGraph.{NetworkGraph}
 use Rattle.marks.specs.Marks.{all_of}
 use Rattle.loops.specs.Wrap.{add64}
@@ -57,13 +59,7 @@ refused_way k ms r i e = rw e (way_none r i)
 
 -- an accepted graph has 1 to 64 positions
 graph_sized : (g : NetworkGraph) → graph_refusal g ≡ 0 → (0 < g.n) × (g.n ≤ 64)
-unfolding graph_refusal
-graph_sized g e = by (ltb 0 g.n) refl (leb g.n 64) refl (all_of g.n (λ i. inside g.n (get_or g.adj i 0))) e
-  where
-    by : (x : Bool) → ltb 0 g.n ≡ x → (y : Bool) → leb g.n 64 ≡ y → (z : Bool) → ◌≡◌ {A = ℕ} (either (x && y) (either z 0 bad_links) bad_positions) 0 → (0 < g.n) × (g.n ≤ 64)
-    by true p true q z w = (ltb-true 0 g.n p, leb-true g.n 64 q)
-    by true p false q z w = absurd (let u : ◌≡◌ {A = ℕ} 2 0 = w in omega arith)
-    by false p y q z w = absurd (let u : ◌≡◌ {A = ℕ} 2 0 = w in omega arith)
+graph_sized g e = graph_parts g (unrefused (graph_test g) e)
 
 -- and so has an accepted room
 pub opened_size : (a : Asked) → open_refusal a ≡ 0 → (0 < a.graph.n) × (a.graph.n ≤ 64)

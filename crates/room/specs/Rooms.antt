@@ -1,6 +1,7 @@
 -- Rooms, by RULES 11.2, 11.3 and 11.4: opening, proposals and rounds. A room's calls move the parts of its kind
 -- (specs/Capturing, specs/Pipelining) and leave the rest. Assumes nothing: these are definitions.
 use Rattle.std.specs.Prelude.{ℕ, not, ◌&&◌, List, ◌==◌, nat_lt, slice_index_or}
+use Rattle.std.specs.Result.{result_unwrap_or}
 use Rattle.loops.specs.Pick.{either}
 use Rattle.limits.specs.Limits as limit
 use Rattle.limits.specs.Refusals.{bad_loss, no_repeats, no_interval, many_transactions}
@@ -74,7 +75,7 @@ abbrev pub conf_of : Asked → RoomConf
 conf_of a =
     record {
       kind = a.kind;
-      round = record { graph = a.graph; settings = a.settings; interval = a.interval; length = round_length a.kind a.settings (length_of a.graph).links };
+      round = record { graph = a.graph; settings = a.settings; interval = a.interval; length = round_length a.kind a.settings (result_unwrap_or (length_of a.graph) 0) };
       transactions = a.transactions;
       bound = a.bound;
     }

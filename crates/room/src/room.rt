@@ -3,7 +3,8 @@
 // everything else as it was.
 ghost use Rattle.std.specs.Prelude.{◌≡◌, ◌&&◌, length, ◌==◌};
 ghost use Rattle.graph.specs.Paths.{length_of};
-ghost use Rattle.graph.specs.Links.{is_size};
+ghost use Rattle.graph.specs.Links.{is_size, graph_refusal};
+ghost use Rattle.std.specs.Result.{result_unwrap_or};
 ghost use Rattle.room.specs.Kinds.{is_pipeline};
 ghost use Rattle.room.specs.Rooms.{room_limits, open_refusal, round_length, new_room, conf_of, no_conf, open_of, propose_of, capture_of, capture_buffer, pipeline_of, pipeline_buffer};
 
@@ -143,11 +144,17 @@ fn no_repeats(kind: RoomKind, repeats: u32) -> bool
     repeats == 0
 }
 
+// 2 and 3 of the links, by their numbers.
+fn links_refusal(graph: &NetworkGraph) -> u64
+    ensures { result ≡ graph_refusal graph.now }
+{
+    refusals::answer(graph.check())
+}
+
 pub fn open_refusal(a: Asked) -> u64
     ensures { result ≡ open_refusal a }
 {
-    let graph = a.graph;
-    let links = graph.refusal();
+    let links = links_refusal(&a.graph);
     if links != 0 {
         return links;
     }
@@ -169,12 +176,12 @@ pub fn open_refusal(a: Asked) -> u64
 
 // Only a flood's length needs the diameter.
 fn round_length(kind: RoomKind, s: Settings, g: NetworkGraph) -> u64
-    ensures { result ≡ round_length kind s (length_of g).links }
+    ensures { result ≡ round_length kind s (result_unwrap_or (length_of g) 0) }
 {
     match kind {
         RoomKind::Pipeline => {
-            let d = g.diameter();
-            engine::flood_length(s.slots_given, s.round_slots, d.links, s.flood_repeats)
+            let diameter = g.diameter().unwrap_or(0);
+            engine::flood_length(s.slots_given, s.round_slots, diameter, s.flood_repeats)
         }
         RoomKind::Capture => s.round_slots,
     }

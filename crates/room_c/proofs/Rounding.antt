@@ -13,7 +13,7 @@ use Rattle.loops.specs.Pick.{either}
 use Rattle.loops.specs.Runs.{go}
 use Rattle.loops.specs.Wrap.{add64}
 use Rattle.merges.proofs.Safety.{either_cases}
-use Rattle.graph.specs.Links.{is_size, graph_refusal}
+use Rattle.graph.specs.Links.{is_size, size_test, graph_test}
 use Rattle.graph.proofs.Answers.{size_none, size_many, size_ok}
 use Rattle.engines.specs.Nodes.{inc, total}
 use Rattle.engines.specs.Network.{new_network}
@@ -193,7 +193,7 @@ opened_room a e z = rw ((accepted_room a z).1, e)
 
 -- an accepted opening has 1 to 64 positions
 accepted_size : (a : Asked) → open_refusal a ≡ 0 → is_size a.graph.n ≡ true
-unfolding open_refusal graph_refusal
+unfolding open_refusal graph_test size_test
 accepted_size a z =
     decide (is_size a.graph.n) (λ s. s)
     (λ s. absurd (let h : ◌≡◌ {A = ℕ} 2 0 = rw s at z in omega arith))

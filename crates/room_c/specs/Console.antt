@@ -11,7 +11,9 @@ use Rattle.engines_c.specs.Numbers.{truth}
 use Rattle.engines_c.specs.Payloads.{put_held}
 use Rattle.engines.specs.Network.{or_else}
 use Rattle.engines.specs.declared.settings.Settings.{Settings}
-use Rattle.graph.specs.Links.{rows_of}
+use Rattle.std.specs.Result.{result_unwrap_or}
+use Rattle.limits.specs.Refusals.{answer_of as tell}
+use Rattle.graph.specs.Links.{no_graph, rows_of}
 use Rattle.graph.specs.declared.network.NetworkGraph.{NetworkGraph}
 use Rattle.pipeline_c.specs.Console.{put_played}
 use Rattle.pipeline_c.specs.declared.rounds.Played.{Played}
@@ -85,8 +87,8 @@ asked_by xs loss p g =
 unfoldable pub opening_by : List ℕ → Float → Float → List ℕ → Opening
 opening_by xs loss p links =
     let b = rows_of links in
-    let o = open_of (asked_by xs loss p b.graph) in
-    record { refusal = or_else b.refusal o.refusal; room = o.room }
+    let o = open_of (asked_by xs loss p (result_unwrap_or b no_graph)) in
+    record { refusal = or_else (tell b) o.refusal; room = o.room }
 
 -- ---- which call it is
 

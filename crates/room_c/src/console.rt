@@ -22,6 +22,7 @@
 // because a NaN has no number here.
 ghost use Rattle.std.specs.Prelude.{◌≡◌, ◌<◌, ◌≤◌, ◌^◌};
 ghost use Rattle.std.proofs.lemmas.List.Edits.{sets};
+ghost use Rattle.graph.specs.Links.{no_graph};
 ghost use Rattle.demand.specs.Calls.{Propose, handed};
 ghost use Rattle.room_c.specs.Answers.{told_in};
 ghost use Rattle.room_c.specs.Console.{kind_numbered, settings_by, asked_by, opening_by, whole_said, part_said};
@@ -32,6 +33,7 @@ use super::answers;
 use engines::settings::Settings;
 use engines_c::{numbers, payloads};
 use graph::network::NetworkGraph;
+use limits::refusals;
 use pipeline_c::console as pipes;
 use pipeline_c::rounds::Played;
 use readings::readings as reading;
@@ -83,23 +85,30 @@ fn asked_by(xs: &[u64], loss_rate: f64, abort_probability: f64, graph: NetworkGr
     }
 }
 
+fn no_graph() -> NetworkGraph
+    ensures { result ≡ no_graph }
+{
+    NetworkGraph {
+        n: 0,
+        adj: [0u64; limits::POSITIONS],
+    }
+}
+
 // The refusal of the rows, or else of the opening. Rows that are refused make a graph of no positions, and so the room
 // has none either.
 fn open_by(xs: &[u64], loss_rate: f64, abort_probability: f64, links: &[u64]) -> Opening
     ensures { result ≡ opening_by xs.now loss_rate abort_probability links.now }
 {
-    let b = NetworkGraph::from_rows(links);
-    let graph = b.graph;
+    let rows = NetworkGraph::from_rows(links);
+    let graph = rows.unwrap_or(no_graph());
+    let refusal = refusals::answer(rows);
     let asked = asked_by(xs, loss_rate, abort_probability, graph);
     let o = Room::open(asked);
-    if b.refusal == 0 {
+    if refusal == 0 {
         return o;
     }
     let room = o.room;
-    Opening {
-        refusal: b.refusal,
-        room,
-    }
+    Opening { refusal, room }
 }
 
 // ---- the calls

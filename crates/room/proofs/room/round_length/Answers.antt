@@ -3,7 +3,7 @@ use Rattle.room.proofs.room.round_length.Goals as goal
 
 pub returns-in-Pipeline : goal.returns-in-Pipeline
 unfolding round_length
-returns-in-Pipeline c = rw (c.in-Pipeline.is, c.flood_length.ensures, c.diameter-d.ensures.value)
+returns-in-Pipeline c = rw (c.in-Pipeline.is, c.flood_length.ensures, c.unwrap_or-diameter.ensures, c.diameter.ensures.value)
 
 pub returns-in-Capture : goal.returns-in-Capture
 unfolding round_length
