@@ -1,12 +1,12 @@
-// RULES none. What the test programs have in common: the numbers of a line, and one number for many.
+// RULES none. What the test programs have in common: the numbers of a line, the words of a room, one number for many.
 #![tactic(auto)]
 
-ghost use Rattle.std.specs.Prelude.{◌≡◌, ◌<◌, length, map, IfOk};
-ghost use Rattle.std.specs.List.{fold};
+ghost use Rattle.std.specs.Prelude.{◌≡◌, ◌+◌, ◌*◌, ◌%◌, ◌^◌, map, IfOk};
+ghost use Rattle.std.specs.List.{fold, range_with_len};
 ghost use Rattle.case_lines.specs.Lines.{numbers_of, mix_of};
 
 use anyhow::Result;
-use std::alloc::Global;
+use std::alloc::{AllocError, Global};
 
 // The numbers of a line: decimal, with single blanks between them.
 pub fn numbers(alloc: Global, line: &str) -> Result<Vec<u64>>
@@ -17,6 +17,15 @@ pub fn numbers(alloc: Global, line: &str) -> Result<Vec<u64>>
         all.push(word.parse::<u64>()?)?;
     }
     Ok(all)
+}
+
+// So many words, each a step above the one before it, and past the greatest from 0 on.
+pub fn words_from(alloc: Global, first: u64, step: u64, count: u64) -> Result<Vec<u64>, AllocError>
+    ensures { IfOk result (λ v. v.items ≡ map (λ i. (first + step * i) % 2 ^ 64) (range_with_len 0 count)) }
+{
+    (0..count)
+        .map(|i| first.wrapping_add(step.wrapping_mul(i)))
+        .collect(alloc)
 }
 
 fn mix(h: u64, x: u64) -> u64
