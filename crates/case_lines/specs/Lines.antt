@@ -1,3 +1,4 @@
+-- RULES none. What the test programs' contracts say. Assumes nothing: these are definitions.
 use Rattle.std.specs.Prelude.{ℕ, List, ◌+◌, ◌*◌, ◌/◌, ◌%◌, map, ◌==◌}
 use Rattle.std.specs.List.{slice_split}
 use Rattle.std.specs.Str.Parse.{digits_value, without_leading_plus}
@@ -10,5 +11,6 @@ number_of word = digits_value 10 (without_leading_plus word)
 abbrev pub numbers_of : List ℕ → List ℕ
 numbers_of line = map number_of (slice_split (λ b. b == 32) line)
 
+-- what is told so far, and one number more
 abbrev pub mix_of : ℕ → ℕ → ℕ
 mix_of h x = (h % 4294967296) * 1000003 + x % 4294967296 + x / 4294967296
