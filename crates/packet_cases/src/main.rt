@@ -18,303 +18,237 @@
 // the local text afterwards.
 #![tactic(auto)]
 
-ghost use Rattle.std.specs.Prelude.{◌≡◌, ◌≤◌, length};
-ghost use Rattle.std.specs.Float.{binary64};
-ghost use Rattle.std.specs.Float.Ieee.{nan_bits};
-
+use anyhow::{Result, bail};
 use packets_c::{console, desk};
+use std::alloc::{AllocError, Global};
 use std::io;
-use std::io::Read;
 
-// Where the words of a line start and end, and where the word that is being read starts.
+// The most bytes of a text or a buffer.
+const MOST: usize = 1024;
+
+const DATA: usize = 32;
+
+// The numbers of a pipeline packet. A capture packet has fewer.
+const NUMBERS: usize = 12;
+
 #[derive(Clone, Copy)]
-struct Line {
-    count: usize,
-    starts: [usize; 16],
-    ends: [usize; 16],
-    start: usize,
+enum Family {
+    Capture,
+    Pipeline,
 }
 
-fn line_from(start: usize) -> Line {
-    Line {
-        count: 0,
-        starts: [0usize; 16],
-        ends: [0usize; 16],
-        start,
-    }
-}
-
-fn with_word(l: Line, end: usize, start: usize) -> Line {
-    let mut r = l;
-    let count = l.count;
-    if count < 16 {
-        r.starts[count] = l.start;
-        r.ends[count] = end;
-        r.count = count + 1;
-        r.start = start;
-    }
-    r
-}
-
-// An empty word if there is none of that number.
-fn word(text: &[u8], l: Line, k: usize) -> &[u8] {
-    if k < 16 {
-        let starts = l.starts;
-        let ends = l.ends;
-        let start = starts[k];
-        let end = ends[k];
-        if start <= end {
-            if end <= text.len() {
-                return &text[start..end];
-            }
+impl Family {
+    fn numbers(self) -> usize {
+        match self {
+            Family::Capture => 5,
+            Family::Pipeline => NUMBERS,
         }
     }
-    &text[0..0]
-}
 
-fn with_digit(v: u64, b: u8) -> u64 {
-    match b {
-        48..=57 => {
-            let d = (b - 48) as u64;
-            if v <= (18446744073709551615 - d) / 10 {
-                return v * 10 + d;
-            }
-            v
+    fn read(self, text: &[u8], len: u64, numbers: &mut [u64], data: &mut [u8]) -> u64 {
+        match self {
+            Family::Capture => console::ce_packet_read(text, len, numbers, data),
+            Family::Pipeline => console::pipeline_packet_read(text, len, numbers, data),
         }
-        _ => v,
+    }
+
+    fn write(
+        self,
+        numbers: &[u64],
+        data: &[u8],
+        buf: &mut [u8],
+        place: u64,
+        next: &mut u64,
+    ) -> u64 {
+        match self {
+            Family::Capture => console::ce_packet_write(numbers, data, buf, place, next),
+            Family::Pipeline => console::pipeline_packet_write(numbers, data, buf, place, next),
+        }
     }
 }
 
-fn number(digits: &[u8]) -> u64 {
-    let mut v: u64 = 0;
-    for b in digits {
-        v = with_digit(v, *b);
+// ---- the words of a question
+
+fn bytes_of(alloc: Global, word: &str) -> Result<Vec<u8>> {
+    if word == "-" {
+        return Ok(Vec::new(alloc));
     }
-    v
+    Ok(hex::decode(alloc, word)?)
 }
 
-fn numbers_of(text: &[u8], l: Line) -> [u64; 16] {
-    let mut at = [0u64; 16];
-    for i in 0..16 {
-        at[i] = number(word(text, l, i));
-    }
-    at
+fn numbers_of(alloc: Global, words: &[&str], count: usize) -> Result<Vec<u64>> {
+    words
+        .iter()
+        .take(count)
+        .map(|word| -> Result<u64> { Ok(word.parse::<u64>()?) })
+        .try_collect(alloc)
 }
 
-fn half_byte(b: u8) -> u8
-    ensures { result ≤ 15 }
-{
-    match b {
-        48..=57 => b - 48,
-        65..=70 => b - 55,
-        _ => 0,
-    }
-}
-
-fn put(out: &mut [u8], i: usize, high: u8, low: u8) {
-    if i < out.len() {
-        out[i] = half_byte(high) * 16 + half_byte(low);
-    }
-}
-
-// How many bytes of `out` the digits fill. Digits for which there is no room are left out.
-fn bytes_of(digits: &[u8], out: &mut [u8]) -> usize
-    ensures { result ≤ length out.old }
-{
-    let count = out.len().min(digits.len() / 2);
-    for i in 0..count {
-        put(out, i, digits[2 * i], digits[2 * i + 1]);
-    }
-    count
-}
-
-// The field of the exponent is full, and that of the digits is not 0.
-fn is_nan(bits: u64) -> bool
-    ensures { result ≡ nan_bits binary64 bits }
-{
-    if bits % 9223372036854775808 / 4503599627370496 != 2047 {
-        return false;
-    }
-    bits % 4503599627370496 != 0
-}
-
-// Every NaN is one value, which only arithmetic makes: the language makes none of bits.
+// Every NaN is one value: the language makes none of bits.
+#[tactic(auto, using(std::proofs::lemmas::Float::not_nan_f64_bits))]
 fn float_of(bits: u64) -> f64 {
-    if is_nan(bits) {
-        return 0.0 / 0.0;
+    if bits % 0x8000_0000_0000_0000 <= 0x7ff0_0000_0000_0000 {
+        f64::from_bits(bits)
+    } else {
+        f64::NAN
     }
-    f64::from_bits(bits)
 }
 
-fn at_most(n: u64, most: usize) -> usize
-    ensures { result ≤ most }
-{
-    let k = n as usize;
-    if k <= most {
-        return k;
+// A position that votes.
+#[derive(Clone, Copy)]
+struct Voter {
+    n: u64,
+    abort: f64,
+    seed: u64,
+    position: u64,
+}
+
+impl Voter {
+    fn from_words(words: &[&str]) -> Result<Voter> {
+        let [n, abort, seed, position, ..] = words else {
+            bail!("no voter: {words:?}");
+        };
+        Ok(Voter {
+            n: n.parse::<u64>()?,
+            abort: float_of(abort.parse::<u64>()?),
+            seed: seed.parse::<u64>()?,
+            position: position.parse::<u64>()?,
+        })
     }
-    most
 }
 
-fn say(rt: &impl Print, s: &[u8]) -> io::Result<()> {
-    rt.write_all(s)
-}
+// ---- answers
 
-fn say_refusal(rt: &impl Print, n: u64) -> io::Result<()> {
-    print!(rt; "refusal {n}")
+fn buffer(alloc: Global, size: u64) -> Result<Vec<u8>, AllocError> {
+    vec![in alloc; b'.'; MOST.min(size as usize)]
 }
 
 fn say_wrote(rt: &impl Print, refusal: u64, next: u64, buf: &[u8]) -> io::Result<()> {
-    if refusal == 0 {
-        print!(rt; "{next}")?;
-    } else {
-        say_refusal(rt, refusal)?;
+    match refusal {
+        0 => print!(rt; "{next} ")?,
+        _ => print!(rt; "refusal {refusal} ")?,
     }
-    say(rt, b" ")?;
-    say(rt, buf)
+    rt.write_all(buf)?;
+    println!(rt)
 }
 
-fn write_ce_into(
-    rt: &impl Print,
-    buf: &mut [u8],
-    data: &[u8],
-    place: u64,
+fn write(
+    rt: &(impl Print + AllocGlobal),
+    family: Family,
     numbers: &[u64],
-) -> io::Result<()> {
-    let mut next: u64 = 0;
-    let k = console::ce_packet_write(numbers, data, buf, place, &mut next);
-    say_wrote(rt, k, next, buf)
-}
-
-fn write_ce(
-    rt: &impl Print,
     data: &[u8],
     size: u64,
     place: u64,
-    numbers: &[u64],
 ) -> io::Result<()> {
-    let mut buf = [46u8; 1024];
-    let end = at_most(size, 1024);
-    write_ce_into(rt, &mut buf[0..end], data, place, numbers)
+    let mut buf = buffer(rt.alloc(), size)?;
+    let mut next = 0;
+    let refusal = family.write(numbers, data, &mut buf, place, &mut next);
+    say_wrote(rt, refusal, next, &buf)
 }
 
-fn write_pipeline_into(
-    rt: &impl Print,
-    buf: &mut [u8],
-    data: &[u8],
-    place: u64,
-    numbers: &[u64],
-) -> io::Result<()> {
-    let mut next: u64 = 0;
-    let k = console::pipeline_packet_write(numbers, data, buf, place, &mut next);
-    say_wrote(rt, k, next, buf)
-}
-
-fn write_pipeline(
-    rt: &impl Print,
-    data: &[u8],
-    size: u64,
-    place: u64,
-    numbers: &[u64],
-) -> io::Result<()> {
-    let mut buf = [46u8; 1024];
-    let end = at_most(size, 1024);
-    write_pipeline_into(rt, &mut buf[0..end], data, place, numbers)
-}
-
-fn read_ce(rt: &impl Print, text: &[u8], len: u64) -> io::Result<()> {
-    let mut numbers = [0u64; 5];
-    let mut data = [0u8; 32];
-    let k = console::ce_packet_read(text, len, &mut numbers, &mut data);
-    if k != 0 {
-        return say_refusal(rt, k);
+fn read(rt: &(impl Print + AllocGlobal), family: Family, text: &[u8], len: u64) -> io::Result<()> {
+    let mut numbers = [0; NUMBERS];
+    let mut data = [0; DATA];
+    let refusal = family.read(text, len, &mut numbers, &mut data);
+    if refusal != 0 {
+        return println!(rt; "refusal {refusal}");
     }
-    write_ce(rt, &data, std::num::wrapping_add_u64(len, 2), 1, &numbers)
+    write(rt, family, &numbers, &data, len.wrapping_add(2), 1)
 }
 
-fn read_pipeline(rt: &impl Print, text: &[u8], len: u64) -> io::Result<()> {
-    let mut numbers = [0u64; 12];
-    let mut data = [0u8; 32];
-    let k = console::pipeline_packet_read(text, len, &mut numbers, &mut data);
-    if k != 0 {
-        return say_refusal(rt, k);
-    }
-    write_pipeline(rt, &data, std::num::wrapping_add_u64(len, 2), 1, &numbers)
-}
-
+// Each text lies in a buffer of the greatest size.
 fn merge(
-    rt: &impl Print,
-    local: &mut [u8],
-    n: usize,
-    digits: &[u8],
-    at: &[u64; 16],
-) -> io::Result<()> {
-    let mut received = [46u8; 1024];
-    let m = bytes_of(digits, &mut received) as u64;
-    let abort = float_of(at[4]);
-    let mut len = n as u64;
-    let mut news: u64 = 0;
-    let k = desk::ce_packet_merge(
-        local, &mut len, &received, m, at[3], at[6], abort, at[5], &mut news,
+    rt: &(impl Print + AllocGlobal),
+    mut local: Vec<u8>,
+    mut received: Vec<u8>,
+    voter: Voter,
+) -> Result<()> {
+    let received_len = received.len() as u64;
+    let mut len = local.len() as u64;
+    let mut news = 0;
+    local.resize(MOST, b'.')?;
+    received.resize(MOST, b'.')?;
+    let refusal = desk::ce_packet_merge(
+        &mut local,
+        &mut len,
+        &received,
+        received_len,
+        voter.n,
+        voter.position,
+        voter.abort,
+        voter.seed,
+        &mut news,
     );
-    if k != 0 {
-        return say_refusal(rt, k);
+    if refusal != 0 {
+        println!(rt; "refusal {refusal}")?;
+        return Ok(());
     }
+    let end = local.len().min(len as usize);
     print!(rt; "{news} ")?;
-    let end = at_most(len, local.len());
-    say(rt, &local[0..end])
+    rt.write_all(&local[..end])?;
+    println!(rt)?;
+    Ok(())
 }
 
-fn propose_into(rt: &impl Print, buf: &mut [u8], at: &[u64; 16]) -> io::Result<()> {
-    let abort = float_of(at[4]);
-    let mut next: u64 = 0;
-    let k = desk::ce_packet_propose(at[2], at[3], at[6], abort, at[5], buf, &mut next);
-    say_wrote(rt, k, next, buf)
+fn propose(rt: &(impl Print + AllocGlobal), size: u64, term: u64, voter: Voter) -> io::Result<()> {
+    let mut buf = buffer(rt.alloc(), size)?;
+    let mut next = 0;
+    let refusal = desk::ce_packet_propose(
+        term,
+        voter.n,
+        voter.position,
+        voter.abort,
+        voter.seed,
+        &mut buf,
+        &mut next,
+    );
+    say_wrote(rt, refusal, next, &buf)
 }
 
-fn propose(rt: &impl Print, at: &[u64; 16]) -> io::Result<()> {
-    let mut buf = [46u8; 1024];
-    let end = at_most(at[1], 1024);
-    propose_into(rt, &mut buf[0..end], at)
+// ---- a question
+
+fn ask_read(rt: &(impl Print + AllocGlobal), family: Family, text: &str, len: &str) -> Result<()> {
+    let text = bytes_of(rt.alloc(), text)?;
+    read(rt, family, &text, len.parse::<u64>()?)?;
+    Ok(())
 }
 
-fn answer(rt: &impl Print, text: &[u8], l: Line) -> io::Result<()> {
-    let at = numbers_of(text, l);
-    let mut bytes = [46u8; 1024];
-    let n = bytes_of(word(text, l, 1), &mut bytes);
-    match at[0] {
-        1 => read_ce(rt, &bytes[0..n], at[2])?,
-        2 => read_pipeline(rt, &bytes[0..n], at[2])?,
-        3 => write_ce(rt, &bytes[0..n], at[2], at[3], &at[4..16])?,
-        4 => write_pipeline(rt, &bytes[0..n], at[2], at[3], &at[4..16])?,
-        5 => merge(rt, &mut bytes, n, word(text, l, 2), &at)?,
-        6 => propose(rt, &at)?,
-        _ => {}
-    }
-    say(rt, b"\n")
+fn ask_write(rt: &(impl Print + AllocGlobal), family: Family, words: &[&str]) -> Result<()> {
+    let [data, size, place, numbers @ ..] = words else {
+        bail!("no packet: {words:?}");
+    };
+    let data = bytes_of(rt.alloc(), data)?;
+    let numbers = numbers_of(rt.alloc(), numbers, family.numbers())?;
+    let size = size.parse::<u64>()?;
+    write(rt, family, &numbers, &data, size, place.parse::<u64>()?)?;
+    Ok(())
 }
 
-fn feed(rt: &impl Print, l: Line, text: &[u8], i: usize) -> io::Result<Line> {
-    if i >= text.len() {
-        return Ok(l);
-    }
-    match text[i] {
-        10 => {
-            answer(rt, text, with_word(l, i, i + 1))?;
-            Ok(line_from(i + 1))
+fn answer(rt: &(impl Print + AllocGlobal), words: &[&str]) -> Result<()> {
+    match words {
+        ["1", text, len, ..] => ask_read(rt, Family::Capture, text, len)?,
+        ["2", text, len, ..] => ask_read(rt, Family::Pipeline, text, len)?,
+        ["3", packet @ ..] => ask_write(rt, Family::Capture, packet)?,
+        ["4", packet @ ..] => ask_write(rt, Family::Pipeline, packet)?,
+        ["5", local, received, voter @ ..] => {
+            let local = bytes_of(rt.alloc(), local)?;
+            let received = bytes_of(rt.alloc(), received)?;
+            merge(rt, local, received, Voter::from_words(voter)?)?
         }
-        32 => Ok(with_word(l, i, i + 1)),
-        _ => Ok(l),
+        ["6", size, term, voter @ ..] => {
+            let voter = Voter::from_words(voter)?;
+            propose(rt, size.parse::<u64>()?, term.parse::<u64>()?, voter)?
+        }
+        _ => bail!("no question: {words:?}"),
     }
+    Ok(())
 }
 
-// All of the questions are read before the first is answered.
-fn main(rt: HostRuntime) -> io::Result<()> {
-    let mut text = Vec::new(rt.alloc());
-    rt.reader().read_to_end(&mut text)?;
-    let mut l = line_from(0);
-    for i in 0..text.len() {
-        l = feed(&rt, l, &text, i)?;
+fn main(rt: HostRuntime) -> Result<()> {
+    for line in rt.lines(rt.alloc()) {
+        let line = line?;
+        let words: Vec<&str> = line.split(' ').collect(rt.alloc())?;
+        answer(&rt, &words)?;
     }
     Ok(())
 }
