@@ -3,8 +3,9 @@
 -- length, and true if the word has mark i. So an entry from 64 on is false and stays so, and the rules hold for every
 -- n, position and length. Every bitmap made here has no mark at or behind its length. Assumes nothing: these are
 -- definitions.
-use Rattle.std.specs.Prelude.{ℕ, ◌+◌, max, Bool, true, false, not, ◌&&◌, ◌||◌, List, [], ◌==◌, nat_eq, nat_le, nat_lt, slice_index_or}
+use Rattle.std.specs.Prelude.{ℕ, ◌+◌, max, Bool, true, false, not, ◌&&◌, ◌||◌, List, [], ◌==◌, nat_eq, nat_le, nat_lt, slice_index_or, replicate, Result, Ok, Err}
 use Rattle.limits.specs.Limits.{positions}
+use Rattle.limits.specs.declared.refusals.Refusal.{Refusal}
 use Rattle.loops.specs.Pick.{either}
 use Rattle.marks.specs.Marks.{has, marks, any_of, all_of}
 use Rattle.packets.specs.Packets.{proposal_data}
@@ -13,7 +14,6 @@ use Rattle.loops.specs.Wrap.{add64}
 use Rattle.packets.specs.declared.TwoPcPhase.{TwoPcPhase}
 use Rattle.packets.specs.declared.TwoPcPhase.TheVariants.{Prepare, Committed, Aborted}
 use Rattle.packets.specs.declared.Bitmap.{Bitmap}
-use Rattle.packets.specs.declared.CeRead.{CeRead}
 use Rattle.packets.specs.declared.CeTwoPcPacket.{CeTwoPcPacket}
 use Rattle.merges.specs.declared.merging.MergeResult.TheVariants.{Redundant, NewInfo}
 use Rattle.merges.specs.declared.merging.ProposalOutcome.{ProposalOutcome}
@@ -159,12 +159,21 @@ merge_of nay n v l r = merged_by nay n v l r.packet r.held
 
 -- ---- texts (RULES 6.1)
 
--- what the first len bytes of a buffer are: nothing, a packet's text, or no packet's
-abbrev pub read_as : ℕ → CeRead → Payload
-read_as len r = record { held = either (len == 0) Empty (either (r.refusal == 0) Packet Unreadable); packet = r.packet }
+-- what is held where there is no packet has one of zeros in its place
+abbrev pub without : Held → Payload
+without h =
+    record {
+      held = h;
+      packet = record { term = 0; phase = Prepare; proposal_data = record { len = 0; bytes = replicate 32 0 }; flags_bitmap = record { len = 0; marks = 0 } };
+    }
 
+abbrev pub read_as : Result CeTwoPcPacket Refusal → Payload
+read_as (Ok p) = record { held = Packet; packet = p }
+read_as (Err k) = without Unreadable
+
+-- what the first len bytes of a buffer are: nothing, a packet's text, or no packet's
 unfoldable pub payload_of : List ℕ → ℕ → Payload
-payload_of s len = read_as len (ce_read s len)
+payload_of s len = either (len == 0) (without Empty) (read_as (ce_read s len))
 
 -- ---- the proposal (RULES 6.6)
 

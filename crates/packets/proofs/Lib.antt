@@ -1,8 +1,8 @@
 pub mod Texts
-pub mod Founds
 pub mod Words
 pub mod Writes
 pub mod Lengths
 pub mod Proposals
 pub mod Parts
 pub mod Promises
+pub mod Slices

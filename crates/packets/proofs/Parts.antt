@@ -1,5 +1,6 @@
 -- Each reader of a packet's part is right: it finds a value exactly where the text of a valid one stands.
 -- Assumes nothing.
+use Rattle.std.specs.Prelude.{Option, Some, None}
 use mathlib.Core.Path.{◌≡◌, refl, sym, ap, ap₂, ◌∙◌, subst}
 use mathlib.Core.Bool.{Bool, true, false}
 use mathlib.Core.List.{List, [], ◌∷◌, ◌++◌}
@@ -14,21 +15,17 @@ use Rattle.texts.specs.Put.{written, length_written}
 use Rattle.texts.specs.Decimal.{decimal}
 use Rattle.texts.specs.Literals.{starts_with, lit_at, Has}
 use Rattle.texts.specs.LiteralLaws.{has_as, lit_has}
-use Rattle.texts.specs.Readers.{got, bad, is_digit, head_digit, num_at, bool_text, bool_at, null_text, list_text, list_at, stored, Reads}
+use Rattle.texts.specs.Readers.{got, Reader, map, is_digit, head_digit, num_at, bool_text, bool_at, null_text, list_text, list_at, stored, Reads}
 use Rattle.texts.specs.ReaderLaws.{never, got_value, got_next, reads_as, map_reads, bool_reads, NullOr, is_null, is_some, null_reads}
 use Rattle.texts.specs.NumberLaws.{num_reads, digit_first}
 use Rattle.texts.specs.ListLaws.{Every, every_all, Listed, list_sound, list_complete}
 use Rattle.texts.specs.Stores.{store_mark, store_byte}
 use Rattle.texts.specs.StoreLaws.{marks_of_word, word_lt, word_of_marks, stored_word, stored_bytes}
-use Rattle.packets.specs.Packets.{most_bytes, phase_text, bitmap_text, data_text, tx_text, state_text, ValidBitmap, ValidData, ValidTx}
-use Rattle.packets.specs.Reading.{phase_at, bitmap_of, bitmap_at, data_of, data_at, tx_at, state_at}
+use Rattle.packets.specs.Packets.{most_bytes, phase_text, bitmap_text, data_text, option_text, tx_text, state_text, ValidBitmap, ValidData, Within, ValidTx}
+use Rattle.packets.specs.Reading.{phase_at, bitmap_of, bitmap_at, data_of, data_at, option_at, tx_at, state_at}
 use Rattle.packets.specs.declared.TwoPcPhase.{TwoPcPhase}
 use Rattle.packets.specs.declared.TwoPcPhase.TheVariants.{Prepare, Committed, Aborted}
 use Rattle.packets.specs.declared.Data.{Data}
-use Rattle.packets.specs.declared.PiggybackTx.{PiggybackTx}
-use Rattle.packets.specs.declared.PiggybackTx.TheVariants as tx
-use Rattle.packets.specs.declared.PiggybackState.{PiggybackState}
-use Rattle.packets.specs.declared.PiggybackState.TheVariants as state
 
 -- ---- phases
 phase_sound : (s : List ℕ) (at : ℕ) (q : TwoPcPhase) (n : ℕ) → phase_at s at ≡ got q n → Has s at (phase_text q) n × Unit {0}
@@ -40,7 +37,7 @@ phase_sound s at q n h = go (lit_at s at (phase_text Prepare)) refl (lit_at s at
         (subst (λ (k : ℕ). Has s at (phase_text q) k) (got_next e) (has_as (ap phase_text (got_value e)) (lit_has s at (phase_text r) p)), tt)
 
     go : (t : Bool) → lit_at s at (phase_text Prepare) ≡ t → (u : Bool) → lit_at s at (phase_text Committed) ≡ u → (w : Bool) → lit_at s at (phase_text Aborted) ≡ w
-        → either t (got Prepare (at + 9)) (either u (got Committed (at + 11)) (either w (got Aborted (at + 9)) bad)) ≡ got q n → Has s at (phase_text q) n × Unit {0}
+        → either t (got Prepare (at + 9)) (either u (got Committed (at + 11)) (either w (got Aborted (at + 9)) None)) ≡ got q n → Has s at (phase_text q) n × Unit {0}
     go true p u r w o e = is Prepare p e
     go false p true r w o e = is Committed r e
     go false p false r true o e = is Aborted o e
@@ -136,67 +133,61 @@ pub data_reads : Reads data_at data_text ValidData
 unfolding data_at
 data_reads = map_reads data_text ValidData data_of (λ d. (d.len, d.bytes)) (record { sound = bytes_sound; complete = bytes_complete }) (λ d v. refl)
 
--- ---- what is piggybacked
-abbrev SomeTx : PiggybackTx → Type 0
-SomeTx tx.Absent = ⊥
-SomeTx (tx.Present n) = n < 2 ^ 64
+-- ---- what may be absent
+module _ {A : Type 0} {rd : Reader A} {text : A → List ℕ} {May : A → Type 0} (r : Reads rd text May) (empty : A)
+    (other : (v : A) → May v → (x : List ℕ) → starts_with null_text (text v ++ x) ≡ false) where
+  There : Option A → Type 0
+  There None = ⊥
+  There (Some v) = May v
 
-abbrev num_of : PiggybackTx → ℕ
-num_of tx.Absent = 0
-num_of (tx.Present n) = n
+  abbrev value_of : Option A → A
+  value_of None = empty
+  value_of (Some v) = v
 
-tx_back : (v : PiggybackTx) → SomeTx v → tx.Present (num_of v) ≡ v
-tx_back tx.Absent h = absurd h
-tx_back (tx.Present n) h = refl
+  back : (v : Option A) → There v → Some (value_of v) ≡ v
+  unfolding There
+  back None h = absurd h
+  back (Some v) h = refl
 
-tx_other : (v : PiggybackTx) → SomeTx v → (x : List ℕ) → starts_with null_text (tx_text v ++ x) ≡ false
+  no_null : (v : Option A) → There v → (x : List ℕ) → starts_with null_text (option_text text v ++ x) ≡ false
+  unfolding There
+  no_null None h x = absurd h
+  no_null (Some v) h x = other v h x
+
+  to : (v : Option A) → NullOr None (option_text text) There v → Within May v
+  unfolding There
+  to None m = tt
+  to (Some v) (is_some h o) = h
+
+  fro : (v : Option A) → Within May v → NullOr None (option_text text) There v
+  unfolding There
+  fro None h = is_null
+  fro (Some v) h = is_some h (no_null (Some v) h)
+
+  some_reads : Reads (λ s at. map Some (rd s at)) (option_text text) There
+  unfolding There
+  some_reads = map_reads (option_text text) There Some value_of r back
+
+  pub option_reads : Reads (option_at rd) (option_text text) (Within May)
+  unfolding option_at
+  option_reads = reads_as (null_reads None some_reads refl no_null) to fro
+
+decimal_other : (n : ℕ) → n < 2 ^ 64 → (x : List ℕ) → starts_with null_text (decimal n ++ x) ≡ false
 unfolding is_digit
-tx_other tx.Absent h x = absurd h
-tx_other (tx.Present n) h x = digit_first n 110 (117 ∷ 108 ∷ 108 ∷ []) x refl
-
-tx_to : (v : PiggybackTx) → NullOr tx.Absent tx_text SomeTx v → ValidTx v
-tx_to tx.Absent m = tt
-tx_to (tx.Present n) (is_some h o) = h
-
-tx_fro : (v : PiggybackTx) → ValidTx v → NullOr tx.Absent tx_text SomeTx v
-tx_fro tx.Absent h = is_null
-tx_fro (tx.Present n) h = is_some h (tx_other (tx.Present n) h)
+decimal_other n h x = digit_first n 110 (117 ∷ 108 ∷ 108 ∷ []) x refl
 
 pub tx_reads : Reads tx_at tx_text ValidTx
-unfolding tx_at
-tx_reads =
-    reads_as
-    (null_reads tx.Absent (map_reads tx_text SomeTx tx.Present num_of (num_reads (2 ^ 64) (omega arith)) tx_back) refl tx_other)
-    tx_to
-    tx_fro
+tx_reads = option_reads (num_reads (2 ^ 64) (omega arith)) 0 decimal_other
 
-abbrev SomeState : PiggybackState → Type 0
-SomeState state.Absent = ⊥
-SomeState (state.Present p) = Unit {0}
-
-abbrev phase_of : PiggybackState → TwoPcPhase
-phase_of state.Absent = Prepare
-phase_of (state.Present p) = p
-
-state_back : (v : PiggybackState) → SomeState v → state.Present (phase_of v) ≡ v
-state_back state.Absent h = absurd h
-state_back (state.Present p) h = refl
-
-state_other : (v : PiggybackState) → SomeState v → (x : List ℕ) → starts_with null_text (state_text v ++ x) ≡ false
+phase_other : (p : TwoPcPhase) → Unit {0} → (x : List ℕ) → starts_with null_text (phase_text p ++ x) ≡ false
 unfolding starts_with
-state_other state.Absent h x = absurd h
-state_other (state.Present Prepare) h x = refl
-state_other (state.Present Committed) h x = refl
-state_other (state.Present Aborted) h x = refl
+phase_other Prepare h x = refl
+phase_other Committed h x = refl
+phase_other Aborted h x = refl
 
-state_fro : (v : PiggybackState) → Unit {0} → NullOr state.Absent state_text SomeState v
-state_fro state.Absent h = is_null
-state_fro (state.Present p) h = is_some tt (state_other (state.Present p) tt)
+state_any : (v : Option TwoPcPhase) → Unit {0} → Within (λ (p : TwoPcPhase). Unit {0}) v
+state_any None h = tt
+state_any (Some p) h = tt
 
 pub state_reads : Reads state_at state_text (λ _. Unit {0})
-unfolding state_at
-state_reads =
-    reads_as
-    (null_reads state.Absent (map_reads state_text SomeState state.Present phase_of phase_reads state_back) refl state_other)
-    (λ v m. tt)
-    state_fro
+state_reads = reads_as (option_reads phase_reads Prepare phase_other) (λ v m. tt) state_any

@@ -1,5 +1,6 @@
 -- The promises of both families.
 -- Assumes nothing.
+use Rattle.std.specs.Prelude.{Option, Some, None, ok_or, Result, Ok, Err}
 use mathlib.Core.Path.{◌≡◌, refl, sym, ap, ◌∙◌, subst}
 use mathlib.Core.Bool.{Bool, true, false}
 use mathlib.Core.List.{List, [], ◌∷◌, ◌++◌, append_assoc, append-nil}
@@ -8,10 +9,11 @@ use native.Mathlib.Omega.{arith}
 use lib.Dec.{eqb}
 use borrow.Author.Tests.{eqb-true, eqb-false}
 use lib.ListN.{length, take, length-append}
-use Rattle.limits.specs.Refusals.{bad_packet}
+use Rattle.limits.specs.declared.refusals.Refusal.{Refusal}
+use Rattle.limits.specs.declared.refusals.Refusal.TheVariants.{BadPacket}
 use Rattle.marks.specs.Marks.{marks_of}
 use Rattle.texts.specs.Decimal.{decimal, decimal_word, decimal_le}
-use Rattle.texts.specs.Readers.{Found, got, bad, on, whole, is_digit, head_digit, bool_text, items_text, list_text, Reads}
+use Rattle.texts.specs.Readers.{Found, on, whole, is_digit, head_digit, bool_text, items_text, list_text, Reads}
 use Rattle.texts.specs.ReaderLaws.{behind_reads, both_reads, bool_reads, whole_sound, whole_complete}
 use Rattle.texts.specs.NumberLaws.{num_reads}
 use Rattle.texts.specs.ListLaws.{Every, none, more}
@@ -22,6 +24,7 @@ use Rattle.packets.specs.Packets.{
   phase_text,
   bitmap_text,
   data_text,
+  option_text,
   tx_text,
   state_text,
   key_term,
@@ -45,8 +48,8 @@ use Rattle.packets.specs.Packets.{
   ValidCe,
   ValidPipeline,
 }
-use Rattle.packets.specs.Reading.{ce_fields, ce_packet, ce_no, ce_yes, ce_read_of, PipelineValues, pipeline_fields, pipeline_packet, pipeline_no, pipeline_yes, pipeline_read_of}
-use Rattle.packets.specs.Values.{phase_name, num_value, phase_value, bitmap_value, data_value, tx_value, state_value, name_term, name_phase, name_proposal_data, name_flags_bitmap, name_transaction_id, name_state, name_abort_flag, name_nack_tx_id, name_transaction_data, name_sender, name_piggyback_tx, name_piggyback_state, ce_value, pipeline_value}
+use Rattle.packets.specs.Reading.{ce_fields, ce_packet, ce_at, ce_read_of, PipelineValues, pipeline_fields, pipeline_packet, pipeline_at, pipeline_read_of}
+use Rattle.packets.specs.Values.{phase_name, num_value, phase_value, bitmap_value, data_value, option_value, tx_value, state_value, name_term, name_phase, name_proposal_data, name_flags_bitmap, name_transaction_id, name_state, name_abort_flag, name_nack_tx_id, name_transaction_data, name_sender, name_piggyback_tx, name_piggyback_state, ce_value, pipeline_value}
 use Rattle.packets.specs.Promises.{CePromises, PipelinePromises}
 use Rattle.packets.proofs.Parts.{phase_reads, bitmap_reads, data_reads, tx_reads, state_reads, full}
 use Rattle.packets.proofs.Texts.{bitmap_len_none, bitmap_len_more, marks_len_le}
@@ -55,14 +58,8 @@ use Rattle.packets.specs.declared.TwoPcPhase.{TwoPcPhase}
 use Rattle.packets.specs.declared.TwoPcPhase.TheVariants.{Prepare, Committed, Aborted}
 use Rattle.packets.specs.declared.Bitmap.{Bitmap}
 use Rattle.packets.specs.declared.Data.{Data}
-use Rattle.packets.specs.declared.PiggybackTx.{PiggybackTx}
-use Rattle.packets.specs.declared.PiggybackTx.TheVariants as tx
-use Rattle.packets.specs.declared.PiggybackState.{PiggybackState}
-use Rattle.packets.specs.declared.PiggybackState.TheVariants as state
 use Rattle.packets.specs.declared.CeTwoPcPacket.{CeTwoPcPacket}
 use Rattle.packets.specs.declared.TwoPcPacket.{TwoPcPacket}
-use Rattle.packets.specs.declared.CeRead.{CeRead}
-use Rattle.packets.specs.declared.PipelineRead.{PipelineRead}
 
 -- ---- the parts are JSON values
 phase_value_lem : (p : TwoPcPhase) → Value (phase_text p) (phase_value p)
@@ -78,13 +75,16 @@ data_value_lem : (d : Data) → Value (data_text d) (data_value d)
 unfolding data_text
 data_value_lem d = list_value decimal num_value (λ n. Value.is_number (number_of n)) (take d.len d.bytes)
 
-tx_value_lem : (p : PiggybackTx) → Value (tx_text p) (tx_value p)
-tx_value_lem tx.Absent = Value.is_null
-tx_value_lem (tx.Present n) = Value.is_number (number_of n)
+option_value_lem : {A : Type 0} {text : A → List ℕ} {value : A → Tree} → ((x : A) → Value (text x) (value x))
+    → (p : Option A) → Value (option_text text p) (option_value value p)
+option_value_lem f None = Value.is_null
+option_value_lem f (Some x) = f x
 
-state_value_lem : (p : PiggybackState) → Value (state_text p) (state_value p)
-state_value_lem state.Absent = Value.is_null
-state_value_lem (state.Present p) = phase_value_lem p
+tx_value_lem : (p : Option ℕ) → Value (tx_text p) (tx_value p)
+tx_value_lem = option_value_lem (λ n. Value.is_number (number_of n))
+
+state_value_lem : (p : Option TwoPcPhase) → Value (state_text p) (state_value p)
+state_value_lem = option_value_lem phase_value_lem
 
 -- ---- how long valid parts can be
 items_short : (xs : List ℕ) → Every (λ x. x < 256) xs → length (items_text decimal xs) ≤ 4 * length xs + 1
@@ -108,14 +108,17 @@ bitmap_short b v = go (eqb b.len 0) refl
     go true e = omega (arith, bitmap_len_none b (eqb-true b.len 0 e))
     go false e = omega (arith, bitmap_len_more b (eqb-false b.len 0 e), marks_len_le b.len b.marks, v.at_most64)
 
-tx_short : (p : PiggybackTx) → ValidTx p → length (tx_text p) ≤ 20
-tx_short tx.Absent h = omega arith
-tx_short (tx.Present n) h = decimal_word n h
+tx_short : (p : Option ℕ) → ValidTx p → length (tx_text p) ≤ 20
+tx_short None h = omega arith
+tx_short (Some n) h = decimal_word n h
 
 -- no digit stands at the end
 end_stops : (x : List ℕ) → head_digit (key_end ++ x) ≡ false
 unfolding head_digit is_digit
 end_stops x = refl
+
+same_ok : {A : Type 0} {x y : A} → ◌≡◌ {A = Result A Refusal} (Ok x) (Ok y) → x ≡ y
+same_ok h = cc
 
 -- ---- CeTwoPcPacket
 abbrev ce_parts : ℕ × (TwoPcPhase × (Data × Bitmap)) → List ℕ
@@ -150,26 +153,28 @@ ce_values p = (p.term, (p.phase, (p.proposal_data, p.flags_bitmap)))
 ce_may_lem : (p : CeTwoPcPacket) → ValidCe p → ce_may (ce_values p)
 ce_may_lem p v = (v.term_fits, (tt, (v.bytes, v.bitmap)))
 
-ce_given : (s : List ℕ) → (ce_read_of s).refusal ≡ 0 → (s ≡ ce_text (ce_read_of s).packet) × ValidCe (ce_read_of s).packet
-unfolding ce_read_of ce_no on
-ce_given s h = go (whole ce_fields key_end s) refl h
+ce_given : (s : List ℕ) (p : CeTwoPcPacket) → ce_read_of s ≡ Ok p → (s ≡ ce_text p) × ValidCe p
+unfolding ce_read_of ce_at on
+ce_given s p h = go (whole ce_fields key_end s) refl h
   where
-    go : (x : Found (ℕ × (TwoPcPhase × (Data × Bitmap)))) → whole ce_fields key_end s ≡ x → (on x (λ w n. ce_yes (ce_packet w)) (ce_no bad_packet)).refusal ≡ 0
-        → (s ≡ ce_text (on x (λ w n. ce_yes (ce_packet w)) (ce_no bad_packet)).packet) × ValidCe (on x (λ w n. ce_yes (ce_packet w)) (ce_no bad_packet)).packet
-    go (got w n) e k = let q = whole_sound key_end ce_reads s w n e in (q.0 ∙ ce_text_lem w, ce_valid w q.1)
-    go bad e k = absurd (omega arith)
+    go : (x : Found (ℕ × (TwoPcPhase × (Data × Bitmap)))) → whole ce_fields key_end s ≡ x → ok_or (on x (λ w n. Some (ce_packet w)) None) BadPacket ≡ Ok p → (s ≡ ce_text p) × ValidCe p
+    go (Some w) e k =
+        let q = whole_sound key_end ce_reads s w.0 w.1 e in
+        let same : ce_packet w.0 ≡ p = cc in
+        subst (λ (r : CeTwoPcPacket). (s ≡ ce_text r) × ValidCe r) same (q.0 ∙ ce_text_lem w.0, ce_valid w.0 q.1)
+    go None e k = let z : ◌≡◌ {A = ℕ} 0 1 = cc in absurd (omega arith)
 
-ce_back : (p : CeTwoPcPacket) → ValidCe p → ce_read_of (ce_text p) ≡ ce_yes p
-unfolding ce_read_of on
+ce_back : (p : CeTwoPcPacket) → ValidCe p → ce_read_of (ce_text p) ≡ Ok p
+unfolding ce_read_of ce_at on
 ce_back p v = rw (whole_complete key_end ce_reads (ce_text p) (ce_values p) end_stops (ce_may_lem p v) (sym (ce_text_lem (ce_values p))))
 
-ce_other : (s : List ℕ) → ((p : CeTwoPcPacket) → ValidCe p → s ≡ ce_text p → ⊥) → (ce_read_of s).refusal ≡ bad_packet
-unfolding ce_read_of ce_no on
+ce_other : (s : List ℕ) → ((p : CeTwoPcPacket) → ValidCe p → s ≡ ce_text p → ⊥) → ce_read_of s ≡ Err BadPacket
+unfolding ce_read_of ce_at on
 ce_other s h = go (whole ce_fields key_end s) refl
   where
-    go : (x : Found (ℕ × (TwoPcPhase × (Data × Bitmap)))) → whole ce_fields key_end s ≡ x → (on x (λ w n. ce_yes (ce_packet w)) (ce_no bad_packet)).refusal ≡ bad_packet
-    go (got w n) e = let q = whole_sound key_end ce_reads s w n e in absurd (h (ce_packet w) (ce_valid w q.1) (q.0 ∙ ce_text_lem w))
-    go bad e = refl
+    go : (x : Found (ℕ × (TwoPcPhase × (Data × Bitmap)))) → whole ce_fields key_end s ≡ x → ok_or (on x (λ w n. Some (ce_packet w)) None) BadPacket ≡ Err BadPacket
+    go (Some w) e = let q = whole_sound key_end ce_reads s w.0 w.1 e in absurd (h (ce_packet w.0) (ce_valid w.0 q.1) (q.0 ∙ ce_text_lem w.0))
+    go None e = refl
 
 pub ce_json : (p : CeTwoPcPacket) → Json (ce_text p) (ce_value p)
 unfolding ce_text ce_value
@@ -186,10 +191,8 @@ ce_json p =
 ce_short : (p : CeTwoPcPacket) → ValidCe p → length (ce_text p) ≤ 596
 ce_short p v = omega (arith, ce_length p, decimal_word p.term v.term_fits, phase_le p.phase, data_short p.proposal_data v.bytes, bitmap_short p.flags_bitmap v.bitmap)
 
-ce_said : (s : List ℕ) → (ce_read_of s).refusal ≡ 0 → Json s (ce_value (ce_read_of s).packet)
-ce_said s h =
-    subst (λ (t : List ℕ). Json t (ce_value (ce_read_of s).packet)) (sym (ce_given s h).0)
-    (ce_json (ce_read_of s).packet)
+ce_said : (s : List ℕ) (p : CeTwoPcPacket) → ce_read_of s ≡ Ok p → Json s (ce_value p)
+ce_said s p h = subst (λ (t : List ℕ). Json t (ce_value p)) (sym (ce_given s p h).0) (ce_json p)
 
 pub ce_promises : CePromises
 ce_promises =
@@ -197,10 +200,10 @@ ce_promises =
       json = ce_json;
       given = ce_given;
       said = ce_said;
-      only = λ s w h j. single.text j (ce_said s h);
-      back = λ p v. (ap (λ (r : CeRead). r.refusal) (ce_back p v), ap (λ (r : CeRead). r.packet) (ce_back p v));
+      only = λ s p w h j. single.text j (ce_said s p h);
+      back = ce_back;
       other = ce_other;
-      one = λ p q v u e. ap (λ (r : CeRead). r.packet) (sym (ce_back p v) ∙ ap ce_read_of e ∙ ce_back q u);
+      one = λ p q v u e. same_ok (sym (ce_back p v) ∙ ap ce_read_of e ∙ ce_back q u);
       fits = λ p v. limits_valid v.bitmap v.bytes;
       short = ce_short;
     }
@@ -248,26 +251,28 @@ pipeline_values p = (p.transaction_id, (p.state, (p.flags_bitmap, (p.abort_flag,
 pipeline_may_lem : (p : TwoPcPacket) → ValidPipeline p → pipeline_may (pipeline_values p)
 pipeline_may_lem p v = (v.id_fits, (tt, (v.bitmap, (tt, (v.nack_fits, (v.bytes, (v.sender_fits, (v.tx_fits, tt))))))))
 
-pipeline_given : (s : List ℕ) → (pipeline_read_of s).refusal ≡ 0 → (s ≡ pipeline_text (pipeline_read_of s).packet) × ValidPipeline (pipeline_read_of s).packet
-unfolding pipeline_read_of pipeline_no on
-pipeline_given s h = go (whole pipeline_fields key_end s) refl h
+pipeline_given : (s : List ℕ) (p : TwoPcPacket) → pipeline_read_of s ≡ Ok p → (s ≡ pipeline_text p) × ValidPipeline p
+unfolding pipeline_read_of pipeline_at on
+pipeline_given s p h = go (whole pipeline_fields key_end s) refl h
   where
-    go : (x : Found (PipelineValues)) → whole pipeline_fields key_end s ≡ x → (on x (λ w n. pipeline_yes (pipeline_packet w)) (pipeline_no bad_packet)).refusal ≡ 0
-        → (s ≡ pipeline_text (on x (λ w n. pipeline_yes (pipeline_packet w)) (pipeline_no bad_packet)).packet) × ValidPipeline (on x (λ w n. pipeline_yes (pipeline_packet w)) (pipeline_no bad_packet)).packet
-    go (got w n) e k = let q = whole_sound key_end pipeline_reads s w n e in (q.0 ∙ pipeline_text_lem w, pipeline_valid w q.1)
-    go bad e k = absurd (omega arith)
+    go : (x : Found (PipelineValues)) → whole pipeline_fields key_end s ≡ x → ok_or (on x (λ w n. Some (pipeline_packet w)) None) BadPacket ≡ Ok p → (s ≡ pipeline_text p) × ValidPipeline p
+    go (Some w) e k =
+        let q = whole_sound key_end pipeline_reads s w.0 w.1 e in
+        let same : pipeline_packet w.0 ≡ p = cc in
+        subst (λ (r : TwoPcPacket). (s ≡ pipeline_text r) × ValidPipeline r) same (q.0 ∙ pipeline_text_lem w.0, pipeline_valid w.0 q.1)
+    go None e k = let z : ◌≡◌ {A = ℕ} 0 1 = cc in absurd (omega arith)
 
-pipeline_back : (p : TwoPcPacket) → ValidPipeline p → pipeline_read_of (pipeline_text p) ≡ pipeline_yes p
-unfolding pipeline_read_of on
+pipeline_back : (p : TwoPcPacket) → ValidPipeline p → pipeline_read_of (pipeline_text p) ≡ Ok p
+unfolding pipeline_read_of pipeline_at on
 pipeline_back p v = rw (whole_complete key_end pipeline_reads (pipeline_text p) (pipeline_values p) end_stops (pipeline_may_lem p v) (sym (pipeline_text_lem (pipeline_values p))))
 
-pipeline_other : (s : List ℕ) → ((p : TwoPcPacket) → ValidPipeline p → s ≡ pipeline_text p → ⊥) → (pipeline_read_of s).refusal ≡ bad_packet
-unfolding pipeline_read_of pipeline_no on
+pipeline_other : (s : List ℕ) → ((p : TwoPcPacket) → ValidPipeline p → s ≡ pipeline_text p → ⊥) → pipeline_read_of s ≡ Err BadPacket
+unfolding pipeline_read_of pipeline_at on
 pipeline_other s h = go (whole pipeline_fields key_end s) refl
   where
-    go : (x : Found (PipelineValues)) → whole pipeline_fields key_end s ≡ x → (on x (λ w n. pipeline_yes (pipeline_packet w)) (pipeline_no bad_packet)).refusal ≡ bad_packet
-    go (got w n) e = let q = whole_sound key_end pipeline_reads s w n e in absurd (h (pipeline_packet w) (pipeline_valid w q.1) (q.0 ∙ pipeline_text_lem w))
-    go bad e = refl
+    go : (x : Found (PipelineValues)) → whole pipeline_fields key_end s ≡ x → ok_or (on x (λ w n. Some (pipeline_packet w)) None) BadPacket ≡ Err BadPacket
+    go (Some w) e = let q = whole_sound key_end pipeline_reads s w.0 w.1 e in absurd (h (pipeline_packet w.0) (pipeline_valid w.0 q.1) (q.0 ∙ pipeline_text_lem w.0))
+    go None e = refl
 
 pub pipeline_json : (p : TwoPcPacket) → Json (pipeline_text p) (pipeline_value p)
 unfolding pipeline_text pipeline_value
@@ -289,10 +294,8 @@ pipeline_json p =
 pipeline_short : (p : TwoPcPacket) → ValidPipeline p → length (pipeline_text p) ≤ 758
 pipeline_short p v = omega (arith, pipeline_length p, decimal_word p.transaction_id v.id_fits, phase_le p.state, bitmap_short p.flags_bitmap v.bitmap, bool_le p.abort_flag, decimal_word p.nack_tx_id v.nack_fits, data_short p.transaction_data v.bytes, decimal_word p.sender v.sender_fits, tx_short p.piggyback_tx v.tx_fits, state_le p.piggyback_state)
 
-pipeline_said : (s : List ℕ) → (pipeline_read_of s).refusal ≡ 0 → Json s (pipeline_value (pipeline_read_of s).packet)
-pipeline_said s h =
-    subst (λ (t : List ℕ). Json t (pipeline_value (pipeline_read_of s).packet)) (sym (pipeline_given s h).0)
-    (pipeline_json (pipeline_read_of s).packet)
+pipeline_said : (s : List ℕ) (p : TwoPcPacket) → pipeline_read_of s ≡ Ok p → Json s (pipeline_value p)
+pipeline_said s p h = subst (λ (t : List ℕ). Json t (pipeline_value p)) (sym (pipeline_given s p h).0) (pipeline_json p)
 
 pub pipeline_promises : PipelinePromises
 pipeline_promises =
@@ -300,10 +303,10 @@ pipeline_promises =
       json = pipeline_json;
       given = pipeline_given;
       said = pipeline_said;
-      only = λ s w h j. single.text j (pipeline_said s h);
-      back = λ p v. (ap (λ (r : PipelineRead). r.refusal) (pipeline_back p v), ap (λ (r : PipelineRead). r.packet) (pipeline_back p v));
+      only = λ s p w h j. single.text j (pipeline_said s p h);
+      back = pipeline_back;
       other = pipeline_other;
-      one = λ p q v u e. ap (λ (r : PipelineRead). r.packet) (sym (pipeline_back p v) ∙ ap pipeline_read_of e ∙ pipeline_back q u);
+      one = λ p q v u e. same_ok (sym (pipeline_back p v) ∙ ap pipeline_read_of e ∙ pipeline_back q u);
       fits = λ p v. limits_valid v.bitmap v.bytes;
       short = pipeline_short;
     }

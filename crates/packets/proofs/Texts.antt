@@ -31,6 +31,13 @@ unfolding items_text marks_of
 marks_more m zero h = absurd (omega arith)
 marks_more m (suc n) h = rw sub-one
 
+-- the next of n, of which so many are done
+pub marks_next : (m n done : ℕ) → done < n
+    → items_text bool_text (marks_of m (n - done)) ≡ (44 ∷ []) ++ (bool_text (eqb (m % 2) 1) ++ items_text bool_text (marks_of (m / 2) (n - (done + 1))))
+marks_next m n done h =
+    let k : n - done - 1 ≡ n - (done + 1) = omega arith in
+    rw (← k) (marks_more m (n - done) (omega arith))
+
 pub bitmap_none : (b : Bitmap) → b.len ≡ 0 → bitmap_text b ≡ 91 ∷ 93 ∷ []
 unfolding bitmap_text list_text marks_of
 bitmap_none b h = rw h
@@ -45,6 +52,15 @@ bitmap_more b h = go b.len h
     go (suc n) h = rw sub-one
 
 -- ---- the bytes of data
+pub rest_none : (d : List ℕ) (i : ℕ) → length d ≤ i → items_text decimal (drop i d) ≡ 93 ∷ []
+unfolding items_text
+rest_none d i h = rw (drop_of_length-le d {i = i} h)
+
+pub rest_more : (d : List ℕ) (i : ℕ) → i < length d
+    → items_text decimal (drop i d) ≡ (44 ∷ []) ++ (decimal (get_or d i 0) ++ items_text decimal (drop (i + 1) d))
+unfolding items_text
+rest_more d i h = rw (add-one, drop-cons d i 0 h)
+
 pub bytes_none : (d : List ℕ) (n i : ℕ) → n ≤ length d → n ≤ i → items_text decimal (drop i (take n d)) ≡ 93 ∷ []
 unfolding items_text
 bytes_none d n i h k = rw (drop_of_length-le (take n d) {i = i} (omega (arith, length-take-le n d h)))
@@ -53,6 +69,15 @@ pub bytes_more : (d : List ℕ) (n i : ℕ) → n ≤ length d → i < n
     → items_text decimal (drop i (take n d)) ≡ (44 ∷ []) ++ (decimal (get_or d i 0) ++ items_text decimal (drop (i + 1) (take n d)))
 unfolding items_text
 bytes_more d n i h k = rw (add-one, drop-cons (take n d) i 0 (omega (arith, length-take-le n d h)), get_or-take n d i 0 k)
+
+pub list_empty : (d : List ℕ) → length d ≡ 0 → list_text decimal d ≡ 91 ∷ 93 ∷ []
+unfolding list_text
+list_empty [] h = refl
+list_empty (x ∷ r) h = absurd (omega arith)
+
+pub list_item : (d : List ℕ) (x : ℕ) (r : List ℕ) → d ≡ x ∷ r → list_text decimal d ≡ (91 ∷ []) ++ (decimal x ++ items_text decimal r)
+unfolding list_text
+list_item d x r h = rw h
 
 pub list_none : (d : List ℕ) (n : ℕ) → n ≡ 0 → list_text decimal (take n d) ≡ 91 ∷ 93 ∷ []
 unfolding list_text

@@ -1,5 +1,6 @@
 -- The limits, and what the writers answer in each case.
 -- Assumes nothing.
+use Rattle.std.specs.Prelude.{Option, Some, None, Ok, Err}
 use mathlib.Core.Path.{◌≡◌, ap, ◌∙◌}
 use mathlib.Core.Bool.{Bool, true, false}
 use mathlib.Core.List.{List}
@@ -9,7 +10,7 @@ use lib.Dec.{leb}
 use lib.ListN.{length, length-append}
 use borrow.Author.Tests.{le-leb, lt-leb, leb-true}
 use Rattle.limits.specs.Limits.{bitmap_entries}
-use Rattle.limits.specs.Refusals.{bad_packet, no_fit}
+use Rattle.limits.specs.declared.refusals.Refusal.TheVariants.{BadPacket, NoFit}
 use Rattle.marks.specs.Sets.{and_true, true_and}
 use Rattle.texts.specs.Put.{Put, Room}
 use Rattle.texts.specs.Decimal.{decimal}
@@ -24,16 +25,15 @@ use Rattle.packets.specs.Packets.{
   state_text,
   ce_text,
   pipeline_text,
+  Within,
   ValidBitmap,
   ValidData,
 }
-use Rattle.packets.specs.Writing.{text_len, refused, wrote_of, left_of}
+use Rattle.packets.specs.Writing.{text_len, wrote_of, left_of}
 use Rattle.packets.specs.declared.Bitmap.{Bitmap}
 use Rattle.packets.specs.declared.Data.{Data}
 use Rattle.packets.specs.declared.TwoPcPhase.{TwoPcPhase}
 use Rattle.packets.specs.declared.TwoPcPhase.TheVariants.{Prepare, Committed, Aborted}
-use Rattle.packets.specs.declared.PiggybackState.{PiggybackState}
-use Rattle.packets.specs.declared.PiggybackState.TheVariants as state
 use Rattle.packets.specs.declared.CeTwoPcPacket.{CeTwoPcPacket}
 use Rattle.packets.specs.declared.TwoPcPacket.{TwoPcPacket}
 
@@ -54,19 +54,19 @@ pub measured : (fine : Bool) (t : List ℕ) (r : ℕ) → fine ≡ true → r �
 measured fine t r e h = h ∙ rw e
 
 module _ (t d : List ℕ) (at : ℕ) where
-  pub wrote_bad : (fine : Bool) → fine ≡ false → (refused bad_packet ≡ wrote_of fine t d at) × (d ≡ left_of fine t d at)
+  pub wrote_bad : (fine : Bool) → fine ≡ false → (Err BadPacket ≡ wrote_of fine t d at) × (d ≡ left_of fine t d at)
   unfolding wrote_of left_of
   wrote_bad fine e = (rw e, rw e)
 
-  pub wrote_short : (fine : Bool) → fine ≡ true → length d < at + length t → (refused no_fit ≡ wrote_of fine t d at) × (d ≡ left_of fine t d at)
+  pub wrote_short : (fine : Bool) → fine ≡ true → length d < at + length t → (Err NoFit ≡ wrote_of fine t d at) × (d ≡ left_of fine t d at)
   unfolding wrote_of left_of
   wrote_short fine e h = (rw (e, lt-leb (at + length t) (length d) h), rw (e, lt-leb (at + length t) (length d) h))
 
 pub wrote : {d : List ℕ} {at : ℕ} {t : List ℕ} {r : ℕ} {d' : List ℕ} (fine : Bool) → fine ≡ true → Room d at t → Put d at t r d'
-    → (record { refusal = 0; next = r } ≡ wrote_of fine t d at) × (d' ≡ left_of fine t d at)
+    → (Ok r ≡ wrote_of fine t d at) × (d' ≡ left_of fine t d at)
 unfolding wrote_of left_of
 wrote {d} {at} {t} fine e h p = (
-  rw (e, le-leb (at + length t) (length d) h.room) (ap (λ (x : ℕ). record { refusal = 0; next = x }) p.next),
+  rw (e, le-leb (at + length t) (length d) h.room) (ap (λ (x : ℕ). Ok x) p.next),
   rw (e, le-leb (at + length t) (length d) h.room) p.left,
 )
 
@@ -75,9 +75,14 @@ phase_le Prepare = omega arith
 phase_le Committed = omega arith
 phase_le Aborted = omega arith
 
-pub state_le : (p : PiggybackState) → length (state_text p) ≤ 11
-state_le state.Absent = omega arith
-state_le (state.Present p) = phase_le p
+pub state_le : (p : Option TwoPcPhase) → length (state_text p) ≤ 11
+state_le None = omega arith
+state_le (Some p) = phase_le p
+
+-- what has no limit has none where it is there
+pub any_within : {A : Type 0} (p : Option A) → Within (λ (x : A). Unit {0}) p
+any_within None = tt
+any_within (Some x) = tt
 
 pub bool_le : (b : Bool) → length (bool_text b) ≤ 5
 bool_le true = omega arith

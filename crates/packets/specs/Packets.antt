@@ -1,6 +1,6 @@
 -- The text of a packet, by RULES 5.1, 5.2, 5.3 and 5.5: serde_json's compact form, and the packets that have one.
 -- Assumes nothing: these are definitions.
-use Rattle.std.specs.Prelude.{◌≡◌, Bool, ◌&&◌, List, [], ◌∷◌, ◌++◌, ℕ, ◌^◌, ◌≤◌, ◌<◌, leb, length, take, replicate}
+use Rattle.std.specs.Prelude.{◌≡◌, Option, Some, None, Bool, ◌&&◌, List, [], ◌∷◌, ◌++◌, ℕ, ◌^◌, ◌≤◌, ◌<◌, leb, length, take, replicate}
 use Rattle.limits.specs.Limits.{bitmap_entries, data_bytes}
 use Rattle.marks.specs.Marks.{marks_of}
 use Rattle.texts.specs.Put.{written}
@@ -12,10 +12,6 @@ use Rattle.packets.specs.declared.TwoPcPhase.TheVariants.{Prepare, Committed, Ab
 use Rattle.packets.specs.declared.Bitmap.{Bitmap}
 use Rattle.packets.specs.declared.Data.{Data}
 use Rattle.packets.specs.declared.CeTwoPcPacket.{CeTwoPcPacket}
-use Rattle.packets.specs.declared.PiggybackTx.{PiggybackTx}
-use Rattle.packets.specs.declared.PiggybackTx.TheVariants as tx
-use Rattle.packets.specs.declared.PiggybackState.{PiggybackState}
-use Rattle.packets.specs.declared.PiggybackState.TheVariants as state
 use Rattle.packets.specs.declared.TwoPcPacket.{TwoPcPacket}
 
 -- a phase is its name in quotation marks: "Prepare", "Committed", "Aborted"
@@ -32,14 +28,17 @@ bitmap_text b = list_text bool_text (marks_of b.marks b.len)
 unfoldable pub data_text : Data → List ℕ
 data_text d = list_text decimal (take d.len d.bytes)
 
--- what is piggybacked, or null
-abbrev pub tx_text : PiggybackTx → List ℕ
-tx_text tx.Absent = null_text
-tx_text (tx.Present n) = decimal n
+-- what may be absent: null, or the value's text
+abbrev pub option_text : {A : Type 0} → (A → List ℕ) → Option A → List ℕ
+option_text text None = null_text
+option_text text (Some x) = text x
 
-abbrev pub state_text : PiggybackState → List ℕ
-state_text state.Absent = null_text
-state_text (state.Present p) = phase_text p
+-- what is piggybacked
+abbrev pub tx_text : Option ℕ → List ℕ
+tx_text = option_text decimal
+
+abbrev pub state_text : Option TwoPcPhase → List ℕ
+state_text = option_text phase_text
 
 -- the names of the fields, each with what stands before it and the colon behind it
 
@@ -143,9 +142,13 @@ pub record ValidData (d : Data) : Type 0 where
   pub small : Every (λ x. x < 256) (take d.len d.bytes)
   pub zeros : d.bytes ≡ written (replicate 32 0) 0 (take d.len d.bytes)
 
-abbrev pub ValidTx : PiggybackTx → Type 0
-ValidTx tx.Absent = Unit {0}
-ValidTx (tx.Present n) = n < 2 ^ 64
+-- what is there is within the limits
+abbrev pub Within : {A : Type 0} → (A → Type 0) → Option A → Type 0
+Within P None = Unit {0}
+Within P (Some x) = P x
+
+abbrev pub ValidTx : Option ℕ → Type 0
+ValidTx = Within (λ n. n < 2 ^ 64)
 
 pub record ValidCe (p : CeTwoPcPacket) : Type 0 where
   pub term_fits : p.term < 2 ^ 64

@@ -1,6 +1,6 @@
 -- RULES 5.3. What a packet's text says, as a JSON value of RFC 8259: an object with exactly these members, in this
 -- order. Assumes nothing: these are definitions.
-use Rattle.std.specs.Prelude.{List, [], ◌∷◌, ℕ, take}
+use Rattle.std.specs.Prelude.{Option, Some, None, List, [], ◌∷◌, ℕ, take}
 use Rattle.marks.specs.Marks.{marks_of}
 use Rattle.texts.specs.Decimal.{decimal}
 use Rattle.texts.specs.Rfc8259.{Tree, Fields}
@@ -9,10 +9,6 @@ use Rattle.packets.specs.declared.TwoPcPhase.{TwoPcPhase}
 use Rattle.packets.specs.declared.TwoPcPhase.TheVariants.{Prepare, Committed, Aborted}
 use Rattle.packets.specs.declared.Bitmap.{Bitmap}
 use Rattle.packets.specs.declared.Data.{Data}
-use Rattle.packets.specs.declared.PiggybackTx.{PiggybackTx}
-use Rattle.packets.specs.declared.PiggybackTx.TheVariants as tx
-use Rattle.packets.specs.declared.PiggybackState.{PiggybackState}
-use Rattle.packets.specs.declared.PiggybackState.TheVariants as state
 use Rattle.packets.specs.declared.CeTwoPcPacket.{CeTwoPcPacket}
 use Rattle.packets.specs.declared.TwoPcPacket.{TwoPcPacket}
 
@@ -36,13 +32,15 @@ abbrev pub data_value : Data → Tree
 data_value d = Tree.array (trees_of num_value (take d.len d.bytes))
 
 -- absent: null
-abbrev pub tx_value : PiggybackTx → Tree
-tx_value tx.Absent = Tree.null
-tx_value (tx.Present n) = num_value n
+abbrev pub option_value : {A : Type 0} → (A → Tree) → Option A → Tree
+option_value value None = Tree.null
+option_value value (Some x) = value x
 
-abbrev pub state_value : PiggybackState → Tree
-state_value state.Absent = Tree.null
-state_value (state.Present p) = phase_value p
+abbrev pub tx_value : Option ℕ → Tree
+tx_value = option_value num_value
+
+abbrev pub state_value : Option TwoPcPhase → Tree
+state_value = option_value phase_value
 
 -- the names of the fields
 

@@ -1,9 +1,10 @@
 -- What the writers answer and leave, by RULES 5.6, and refusals 9 and 10 of RULES 15, for a packet with the text t;
 -- `fine` says that it is within the limits. And how long a capture packet's text is, told from its parts: no rule;
 -- proofs/Lengths has it equal to the text's length. Assumes nothing: these are definitions.
-use Rattle.std.specs.Prelude.{Bool, ◌&&◌, List, ℕ, ◌+◌, ◌-◌, ◌*◌, leb, ltb, eqb, length}
+use Rattle.std.specs.Prelude.{Result, Ok, Err, Bool, ◌&&◌, List, ℕ, ◌+◌, ◌-◌, ◌*◌, leb, ltb, eqb, length}
 use Rattle.limits.specs.Limits.{bitmap_entries}
-use Rattle.limits.specs.Refusals.{bad_packet, no_fit}
+use Rattle.limits.specs.declared.refusals.Refusal.{Refusal}
+use Rattle.limits.specs.declared.refusals.Refusal.TheVariants.{BadPacket, NoFit}
 use Rattle.loops.specs.Pick.{either}
 use Rattle.marks.specs.Marks.{count_of}
 use Rattle.texts.specs.Put.{written}
@@ -12,7 +13,6 @@ use Rattle.packets.specs.Packets.{most_bytes, phase_text, data_text}
 use Rattle.packets.specs.declared.TwoPcPhase.{TwoPcPhase}
 use Rattle.packets.specs.declared.Bitmap.{Bitmap}
 use Rattle.packets.specs.declared.Data.{Data}
-use Rattle.packets.specs.declared.Wrote.{Wrote}
 
 -- the length of the text; a packet outside the limits has none
 abbrev pub text_len : Bool → List ℕ → ℕ
@@ -35,16 +35,10 @@ parts_len t f k b =
     (51 + length (decimal t) + length (phase_text f) + k + bitmap_len b)
     0
 
-abbrev pub refused : ℕ → Wrote
-refused k = record { refusal = k; next = 0 }
-
 -- the answer of a writer at index `at` of the buffer d: 9 outside the limits, then 10 if the text does not fit, else
 -- the index behind the text
-unfoldable pub wrote_of : Bool → List ℕ → List ℕ → ℕ → Wrote
-wrote_of fine t d at =
-    either fine
-    (either (leb (at + length t) (length d)) (record { refusal = 0; next = at + length t }) (refused no_fit))
-    (refused bad_packet)
+unfoldable pub wrote_of : Bool → List ℕ → List ℕ → ℕ → Result ℕ Refusal
+wrote_of fine t d at = either fine (either (leb (at + length t) (length d)) (Ok (at + length t)) (Err NoFit)) (Err BadPacket)
 
 -- the buffer afterwards: the text at its place and every other byte as it was, or, refused, all as it was
 unfoldable pub left_of : Bool → List ℕ → List ℕ → ℕ → List ℕ

@@ -2,11 +2,11 @@
 ghost use Rattle.std.specs.Prelude.{◌≡◌, ◌≤◌, length, take};
 ghost use Rattle.limits.specs.Limits.{bitmap_entries, data_bytes};
 ghost use Rattle.texts.specs.Decimal.{decimal};
-ghost use Rattle.texts.specs.Readers.{bool_text, items_text};
-ghost use Rattle.packets.specs.Packets.{limits, phase_text, bitmap_text, data_text, tx_text, state_text};
+ghost use Rattle.texts.specs.Readers.{items_text};
+ghost use Rattle.packets.specs.Packets.{limits, bitmap_text, data_text};
 ghost use Rattle.packets.specs.Writing.{data_len};
 
-use crate::{Bitmap, Data, PiggybackState, PiggybackTx, TwoPcPhase};
+use crate::{Bitmap, Data};
 use graph::sets;
 
 pub(crate) fn decimal_len(n: u64) -> usize
@@ -21,26 +21,10 @@ pub(crate) fn decimal_len(n: u64) -> usize
     len
 }
 
-pub(crate) fn bool_len(b: bool) -> usize
-    ensures { result ≡ length (bool_text b) }
-{
-    if b { 4 } else { 5 }
-}
-
-pub(crate) fn phase_len(p: TwoPcPhase) -> usize
-    ensures { result ≡ length (phase_text p) }
-{
-    match p {
-        TwoPcPhase::Prepare => 9,
-        TwoPcPhase::Committed => 11,
-        TwoPcPhase::Aborted => 9,
-    }
-}
-
 // An entry and what stands before it are 6 bytes, of which `true` needs one less, and the closing bracket is 1.
 pub(crate) fn bitmap_len(b: Bitmap) -> usize
     requires { b.len ≤ bitmap_entries }
-    ensures { result ≡ length (bitmap_text b) }
+    ensures { (result ≡ length (bitmap_text b)) × (result ≤ 386) }
 {
     if b.len == 0 {
         return 2;
@@ -59,15 +43,13 @@ fn small_len(b: u8) -> usize
 }
 
 // A byte and what stands before it.
-fn bytes_len(d: &[u8], n: usize) -> usize
-    requires { (n ≤ data_bytes) × (n ≤ length d.now) }
-    ensures { (result ≡ length (items_text decimal (take n d.now))) × (result ≤ 129) }
+fn bytes_len(bytes: &[u8]) -> usize
+    requires { length bytes.now ≤ data_bytes }
+    ensures { (result ≡ length (items_text decimal bytes.now)) × (result ≤ 129) }
 {
     let mut len = 1;
-    let mut i = 0;
-    while i < n {
-        len = len + 1 + small_len(d[i]);
-        i += 1;
+    for &b in bytes {
+        len += 1 + small_len(b);
     }
     len
 }
@@ -76,12 +58,11 @@ pub(crate) fn data_len(d: Data) -> usize
     requires { d.len ≤ data_bytes }
     ensures { (result ≡ length (data_text d)) × (result ≤ 129) }
 {
-    let bytes = d.bytes;
     if d.len == 0 {
-        2
-    } else {
-        bytes_len(&bytes, d.len)
+        return 2;
     }
+    let bytes = d.bytes;
+    bytes_len(&bytes[..d.len])
 }
 
 // The length of the data's text, 0 for data of too many bytes, which has none.
@@ -94,30 +75,10 @@ pub fn data_text_len(d: Data) -> usize
     data_len(d)
 }
 
-pub(crate) fn tx_len(p: PiggybackTx) -> usize
-    ensures { (result ≡ length (tx_text p)) × (result ≤ 20) }
-{
-    match p {
-        PiggybackTx::Absent => 4,
-        PiggybackTx::Present(n) => decimal_len(n),
-    }
-}
-
-pub(crate) fn state_len(p: PiggybackState) -> usize
-    ensures { result ≡ length (state_text p) }
-{
-    match p {
-        PiggybackState::Absent => 4,
-        PiggybackState::Present(s) => phase_len(s),
-    }
-}
-
 // The limits of a packet: at most 64 entries in the bitmap and at most 32 bytes of data.
+#[tactic(auto, unfolding(crate::specs::Packets::limits))]
 pub fn within(entries: usize, bytes: usize) -> bool
     ensures { result ≡ limits entries bytes }
 {
-    if entries > limits::BITMAP {
-        return false;
-    }
-    if bytes > limits::DATA { false } else { true }
+    entries <= limits::BITMAP && bytes <= limits::DATA
 }

@@ -2,22 +2,23 @@
 // two_pc_ce.rs and two_pc_pipeline.rs.
 #![tactic(auto)]
 
+mod field;
 pub mod len;
-mod put;
+pub mod put;
 mod read;
 pub mod two_pc_ce;
 pub mod two_pc_pipeline;
 
 // TwoPcCePhase and TwoPcState in one: both have these variants.
-#[derive(Clone, Copy)]
+#[derive(Clone, Copy, Debug, PartialEq, Eq)]
 pub enum TwoPcPhase {
-    Prepare,
-    Committed,
-    Aborted,
+    Prepare = 0,
+    Committed = 1,
+    Aborted = 2,
 }
 
 // The first len marks of a word: mark i is bit i.
-#[derive(Clone, Copy)]
+#[derive(Clone, Copy, Debug, PartialEq, Eq)]
 pub struct Bitmap {
     pub len: usize,
     pub marks: u64,
@@ -39,18 +40,6 @@ pub struct CeTwoPcPacket {
 }
 
 #[derive(Clone, Copy)]
-pub enum PiggybackTx {
-    Absent,
-    Present(u64),
-}
-
-#[derive(Clone, Copy)]
-pub enum PiggybackState {
-    Absent,
-    Present(TwoPcPhase),
-}
-
-#[derive(Clone, Copy)]
 pub struct TwoPcPacket {
     pub transaction_id: u64,
     pub state: TwoPcPhase,
@@ -59,26 +48,6 @@ pub struct TwoPcPacket {
     pub nack_tx_id: u64,
     pub transaction_data: Data,
     pub sender: u64,
-    pub piggyback_tx: PiggybackTx,
-    pub piggyback_state: PiggybackState,
-}
-
-// A writer's answer: the refusal, 0 for none, and the index behind the text, 0 if refused.
-#[derive(Clone, Copy)]
-pub struct Wrote {
-    pub refusal: u64,
-    pub next: usize,
-}
-
-// A reader's answer: the refusal, 0 for none, and the packet, an empty one if refused.
-#[derive(Clone, Copy)]
-pub struct CeRead {
-    pub refusal: u64,
-    pub packet: CeTwoPcPacket,
-}
-
-#[derive(Clone, Copy)]
-pub struct PipelineRead {
-    pub refusal: u64,
-    pub packet: TwoPcPacket,
+    pub piggyback_tx: Option<u64>,
+    pub piggyback_state: Option<TwoPcPhase>,
 }

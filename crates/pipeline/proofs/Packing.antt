@@ -1,4 +1,5 @@
 -- Different round packets stand for different packets, and `same_packet` tells them apart.
+use Rattle.std.specs.Prelude.{Option, Some, None}
 use Rattle.std.proofs.Common.{◌≡◌, ℕ, suc, Bool, true, false, eqb, ltb, sym, refl, ap, ◌∙◌, arith, eq-eqb, eqb-true}
 use mir.Val.{bool_byte}
 use Rattle.marks.specs.Sets.{and_true, true_and}
@@ -8,10 +9,6 @@ use Rattle.loops.specs.Pick.{either}
 use Rattle.packets.specs.declared.TwoPcPhase.{TwoPcPhase}
 use Rattle.packets.specs.declared.TwoPcPhase.TheVariants.{Prepare, Committed, Aborted}
 use Rattle.packets.specs.declared.Data.{Data}
-use Rattle.packets.specs.declared.PiggybackTx.{PiggybackTx}
-use Rattle.packets.specs.declared.PiggybackTx.TheVariants as tx
-use Rattle.packets.specs.declared.PiggybackState.{PiggybackState}
-use Rattle.packets.specs.declared.PiggybackState.TheVariants as state
 use Rattle.packets.specs.declared.TwoPcPacket.{TwoPcPacket}
 use Rattle.pipeline.specs.Pipeline.{data_of, phase_of, piggyback_tx, piggyback_state, packet_of, same_bool, same_piggyback, same_packet}
 use Rattle.pipeline.specs.declared.two_pc_pipeline.Piggyback.{Piggyback}
@@ -30,18 +27,18 @@ fresh_same false false t h = refl
 fresh_same true false t h = absurd (some_data (ltb t 10) _ _ refl refl h)
 fresh_same false true t h = absurd (some_data (ltb t 10) _ _ refl refl (sym h))
 
-abbrev tx_tag : PiggybackTx → ℕ
-tx_tag tx.Absent = 0
-tx_tag (tx.Present t) = suc t
+abbrev tx_tag : Option ℕ → ℕ
+tx_tag None = 0
+tx_tag (Some t) = suc t
 
 abbrev phase_tag : TwoPcPhase → ℕ
 phase_tag Prepare = 0
 phase_tag Committed = 1
 phase_tag Aborted = 2
 
-abbrev state_tag : PiggybackState → ℕ
-state_tag state.Absent = 0
-state_tag (state.Present p) = suc (phase_tag p)
+abbrev state_tag : Option TwoPcPhase → ℕ
+state_tag None = 0
+state_tag (Some p) = suc (phase_tag p)
 
 outcome_same : (o p : Bool) → phase_tag (phase_of o) ≡ phase_tag (phase_of p) → o ≡ p
 outcome_same true true h = refl

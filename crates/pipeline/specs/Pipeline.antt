@@ -1,6 +1,6 @@
 -- RULES 10.3, 10.4, 10.5, 10.8, 10.11 and 5.2: what a round says and what is done with it, `prepare_round` and
 -- `process_round`, in their order of steps and draws. Assumes nothing.
-use Rattle.std.specs.Prelude.{ℕ, ◌+◌, ◌-◌, ◌/◌, ◌%◌, min, Bool, true, false, not, ◌&&◌, ◌||◌, List, [], ◌∷◌, get_or, replicate, ◌==◌, nat_le, nat_lt, slice_index, slice_index_or, slice_set, Float}
+use Rattle.std.specs.Prelude.{Option, Some, None, ℕ, ◌+◌, ◌-◌, ◌/◌, ◌%◌, min, Bool, true, false, not, ◌&&◌, ◌||◌, List, [], ◌∷◌, get_or, replicate, ◌==◌, nat_le, nat_lt, slice_index, slice_index_or, slice_set, Float}
 use Rattle.std.proofs.lemmas.List.Edits.{sets}
 use Rattle.loops.specs.Pick.{either}
 use Rattle.loops.specs.Upto.{upto}
@@ -8,10 +8,6 @@ use Rattle.marks.specs.Marks.{has, marks}
 use Rattle.packets.specs.declared.TwoPcPhase.{TwoPcPhase}
 use Rattle.packets.specs.declared.TwoPcPhase.TheVariants.{Prepare, Committed, Aborted}
 use Rattle.packets.specs.declared.Data.{Data}
-use Rattle.packets.specs.declared.PiggybackTx.{PiggybackTx}
-use Rattle.packets.specs.declared.PiggybackTx.TheVariants as tx
-use Rattle.packets.specs.declared.PiggybackState.{PiggybackState}
-use Rattle.packets.specs.declared.PiggybackState.TheVariants as state
 use Rattle.packets.specs.declared.TwoPcPacket.{TwoPcPacket}
 use Rattle.engines.specs.Clamp.{at_most64}
 use Rattle.engines.specs.Marked.{over_marks, with_mark}
@@ -48,13 +44,13 @@ abbrev pub phase_of : Bool → TwoPcPhase
 phase_of true = Committed
 phase_of false = Aborted
 
-abbrev pub piggyback_tx : Piggyback → PiggybackTx
-piggyback_tx Absent = tx.Absent
-piggyback_tx (Present t o) = tx.Present t
+abbrev pub piggyback_tx : Piggyback → Option ℕ
+piggyback_tx Absent = None
+piggyback_tx (Present t o) = Some t
 
-abbrev pub piggyback_state : Piggyback → PiggybackState
-piggyback_state Absent = state.Absent
-piggyback_state (Present t o) = state.Present (phase_of o)
+abbrev pub piggyback_state : Piggyback → Option TwoPcPhase
+piggyback_state Absent = None
+piggyback_state (Present t o) = Some (phase_of o)
 
 -- The packet that a round's packet stands for: always in Prepare, with a bitmap of n entries.
 unfoldable pub packet_of : ℕ → RoundPacket → TwoPcPacket

@@ -4,7 +4,7 @@ ghost use Rattle.pipeline.specs.Pipeline.{data_of, phase_of, piggyback_tx, piggy
 ghost use Rattle.pipeline.specs.declared.two_pc_pipeline.Piggyback.TheVariants.{Absent, Present};
 
 use super::two_pc_pipeline::{Piggyback, RoundPacket};
-use packets::{Bitmap, Data, PiggybackState, PiggybackTx, TwoPcPacket, TwoPcPhase};
+use packets::{Bitmap, Data, TwoPcPacket, TwoPcPhase};
 
 // The letters t and x, and the number.
 pub fn data(fresh: bool, t: usize) -> Data
@@ -34,21 +34,21 @@ fn phase(committed: bool) -> TwoPcPhase
     TwoPcPhase::Aborted
 }
 
-fn piggyback_tx(p: Piggyback) -> PiggybackTx
+fn piggyback_tx(p: Piggyback) -> Option<u64>
     ensures { result ≡ piggyback_tx p }
 {
     match p {
-        Piggyback::Absent => PiggybackTx::Absent,
-        Piggyback::Present(t, committed) => PiggybackTx::Present(t as u64),
+        Piggyback::Absent => None,
+        Piggyback::Present(t, committed) => Some(t as u64),
     }
 }
 
-fn piggyback_state(p: Piggyback) -> PiggybackState
+fn piggyback_state(p: Piggyback) -> Option<TwoPcPhase>
     ensures { result ≡ piggyback_state p }
 {
     match p {
-        Piggyback::Absent => PiggybackState::Absent,
-        Piggyback::Present(t, committed) => PiggybackState::Present(phase(committed)),
+        Piggyback::Absent => None,
+        Piggyback::Present(t, committed) => Some(phase(committed)),
     }
 }
 

@@ -1,52 +1,48 @@
-use mathlib.Core.Path.{refl, sym, ◌∙◌}
-use Prim.Native.Nat.{◌^◌}
-use borrow.Author.Tests.{not-true, not-false}
-use Rattle.packets.proofs.Founds.{num_got, num_bad, bool_got, bool_bad, phase_got, phase_bad, bitmap_got, bitmap_bad, tx_got, tx_bad, state_got, state_bad, data_got, data_bad}
-use Rattle.packets.specs.Packets.{key_flags_bitmap, key_transaction_id, key_state, key_abort_flag, key_nack_tx_id, key_transaction_data, key_sender, key_piggyback_tx, key_piggyback_state}
-use Rattle.packets.specs.Reading.{phase_at, bitmap_at, data_at, tx_at, state_at, pipeline_fields, pipeline_read_of}
-use Rattle.texts.specs.Readers.{on, behind, both, whole, num_at, bool_at}
+use Rattle.std.proofs.Common.{sym, ◌∙◌}
+use Rattle.packets.specs.Reading.{pipeline_fields, pipeline_at}
+use Rattle.texts.specs.Readers.{on, both, whole}
 use Rattle.packets.proofs.two_pc_pipeline.read_pipeline.Goals as goal
 
-pub returns-in_default : goal.returns-in_default
-unfolding pipeline_read_of whole pipeline_fields both on
-returns-in_default c = c.no_pipeline.ensures ∙ rw (num_bad (behind key_transaction_id (num_at (2 ^ 64)) c.args.s.now (0)) c.num_field.ensures c.in_default.is) refl
+pub returns-in_err-transaction_id : goal.returns-in_err-transaction_id
+unfolding pipeline_at whole pipeline_fields both on
+returns-in_err-transaction_id c = rw (c.from_residual.ensures, sym c.read_field.ensures ∙ c.in_err-transaction_id.was)
 
-pub returns-in_default-phase_field : goal.returns-in_default-phase_field
-unfolding pipeline_read_of whole pipeline_fields both on
-returns-in_default-phase_field c = c.no_pipeline-in_default-phase_field.ensures ∙ rw (num_got (behind key_transaction_id (num_at (2 ^ 64)) c.args.s.now (0)) c.num_field.ensures c.in-Got.is, phase_bad (behind key_state phase_at c.args.s.now c.in-Got.o1) c.phase_field.ensures c.in_default-phase_field.is) refl
+pub returns-in_err-state : goal.returns-in_err-state
+unfolding pipeline_at whole pipeline_fields both on
+returns-in_err-state c = rw (c.from_residual-in_err-state.ensures, sym c.read_field.ensures ∙ c.in_ok-transaction_id.was, sym c.read_field-2.ensures ∙ c.in_err-state.was)
 
-pub returns-in_default-bitmap_field : goal.returns-in_default-bitmap_field
-unfolding pipeline_read_of whole pipeline_fields both on
-returns-in_default-bitmap_field c = c.no_pipeline-in_default-bitmap_field.ensures ∙ rw (num_got (behind key_transaction_id (num_at (2 ^ 64)) c.args.s.now (0)) c.num_field.ensures c.in-Got.is, phase_got (behind key_state phase_at c.args.s.now c.in-Got.o1) c.phase_field.ensures c.in-Got-phase_field.is, bitmap_bad (behind key_flags_bitmap bitmap_at c.args.s.now c.in-Got-phase_field.o2) c.bitmap_field.ensures c.in_default-bitmap_field.is) refl
+pub returns-in_err-flags_bitmap : goal.returns-in_err-flags_bitmap
+unfolding pipeline_at whole pipeline_fields both on
+returns-in_err-flags_bitmap c = rw (c.from_residual-in_err-flags_bitmap.ensures, sym c.read_field.ensures ∙ c.in_ok-transaction_id.was, sym c.read_field-2.ensures ∙ c.in_ok-state.was, sym c.read_field-3.ensures ∙ c.in_err-flags_bitmap.was)
 
-pub returns-in_default-bool_field : goal.returns-in_default-bool_field
-unfolding pipeline_read_of whole pipeline_fields both on
-returns-in_default-bool_field c = c.no_pipeline-in_default-bool_field.ensures ∙ rw (num_got (behind key_transaction_id (num_at (2 ^ 64)) c.args.s.now (0)) c.num_field.ensures c.in-Got.is, phase_got (behind key_state phase_at c.args.s.now c.in-Got.o1) c.phase_field.ensures c.in-Got-phase_field.is, bitmap_got (behind key_flags_bitmap bitmap_at c.args.s.now c.in-Got-phase_field.o2) c.bitmap_field.ensures c.in-Got-bitmap_field.is, bool_bad (behind key_abort_flag bool_at c.args.s.now c.in-Got-bitmap_field.o3) c.bool_field.ensures c.in_default-bool_field.is) refl
+pub returns-in_err-abort_flag : goal.returns-in_err-abort_flag
+unfolding pipeline_at whole pipeline_fields both on
+returns-in_err-abort_flag c = rw (c.from_residual-in_err-abort_flag.ensures, sym c.read_field.ensures ∙ c.in_ok-transaction_id.was, sym c.read_field-2.ensures ∙ c.in_ok-state.was, sym c.read_field-3.ensures ∙ c.in_ok-flags_bitmap.was, sym c.read_field-4.ensures ∙ c.in_err-abort_flag.was)
 
-pub returns-in_default-num_field : goal.returns-in_default-num_field
-unfolding pipeline_read_of whole pipeline_fields both on
-returns-in_default-num_field c = c.no_pipeline-in_default-num_field.ensures ∙ rw (num_got (behind key_transaction_id (num_at (2 ^ 64)) c.args.s.now (0)) c.num_field.ensures c.in-Got.is, phase_got (behind key_state phase_at c.args.s.now c.in-Got.o1) c.phase_field.ensures c.in-Got-phase_field.is, bitmap_got (behind key_flags_bitmap bitmap_at c.args.s.now c.in-Got-phase_field.o2) c.bitmap_field.ensures c.in-Got-bitmap_field.is, bool_got (behind key_abort_flag bool_at c.args.s.now c.in-Got-bitmap_field.o3) c.bool_field.ensures c.in-Got-bool_field.is, num_bad (behind key_nack_tx_id (num_at (2 ^ 64)) c.args.s.now c.in-Got-bool_field.o4) c.num_field-2.ensures c.in_default-num_field.is) refl
+pub returns-in_err-nack_tx_id : goal.returns-in_err-nack_tx_id
+unfolding pipeline_at whole pipeline_fields both on
+returns-in_err-nack_tx_id c = rw (c.from_residual-in_err-nack_tx_id.ensures, sym c.read_field.ensures ∙ c.in_ok-transaction_id.was, sym c.read_field-2.ensures ∙ c.in_ok-state.was, sym c.read_field-3.ensures ∙ c.in_ok-flags_bitmap.was, sym c.read_field-4.ensures ∙ c.in_ok-abort_flag.was, sym c.read_field-5.ensures ∙ c.in_err-nack_tx_id.was)
 
-pub returns-then-not-d : goal.returns-then-not-d
-unfolding pipeline_read_of whole pipeline_fields both on
-returns-then-not-d c = c.no_pipeline-then-not-d.ensures ∙ rw (num_got (behind key_transaction_id (num_at (2 ^ 64)) c.args.s.now (0)) c.num_field.ensures c.in-Got.is, phase_got (behind key_state phase_at c.args.s.now c.in-Got.o1) c.phase_field.ensures c.in-Got-phase_field.is, bitmap_got (behind key_flags_bitmap bitmap_at c.args.s.now c.in-Got-phase_field.o2) c.bitmap_field.ensures c.in-Got-bitmap_field.is, bool_got (behind key_abort_flag bool_at c.args.s.now c.in-Got-bitmap_field.o3) c.bool_field.ensures c.in-Got-bool_field.is, num_got (behind key_nack_tx_id (num_at (2 ^ 64)) c.args.s.now c.in-Got-bool_field.o4) c.num_field-2.ensures c.in-Got-num_field.is, data_bad (behind key_transaction_data data_at c.args.s.now c.in-Got-num_field.o5) c.data_field-d.ensures (not-true _ c.if-not-d.true)) refl
+pub returns-in_err-transaction_data : goal.returns-in_err-transaction_data
+unfolding pipeline_at whole pipeline_fields both on
+returns-in_err-transaction_data c = rw (c.from_residual-in_err-transaction_data.ensures, sym c.read_field.ensures ∙ c.in_ok-transaction_id.was, sym c.read_field-2.ensures ∙ c.in_ok-state.was, sym c.read_field-3.ensures ∙ c.in_ok-flags_bitmap.was, sym c.read_field-4.ensures ∙ c.in_ok-abort_flag.was, sym c.read_field-5.ensures ∙ c.in_ok-nack_tx_id.was, sym c.read_field-6.ensures ∙ c.in_err-transaction_data.was)
 
-pub returns-in_default-num_field-2 : goal.returns-in_default-num_field-2
-unfolding pipeline_read_of whole pipeline_fields both on
-returns-in_default-num_field-2 c = c.no_pipeline-in_default-num_field-2.ensures ∙ rw (num_got (behind key_transaction_id (num_at (2 ^ 64)) c.args.s.now (0)) c.num_field.ensures c.in-Got.is, phase_got (behind key_state phase_at c.args.s.now c.in-Got.o1) c.phase_field.ensures c.in-Got-phase_field.is, bitmap_got (behind key_flags_bitmap bitmap_at c.args.s.now c.in-Got-phase_field.o2) c.bitmap_field.ensures c.in-Got-bitmap_field.is, bool_got (behind key_abort_flag bool_at c.args.s.now c.in-Got-bitmap_field.o3) c.bool_field.ensures c.in-Got-bool_field.is, num_got (behind key_nack_tx_id (num_at (2 ^ 64)) c.args.s.now c.in-Got-bool_field.o4) c.num_field-2.ensures c.in-Got-num_field.is, data_got (behind key_transaction_data data_at c.args.s.now c.in-Got-num_field.o5) c.data_field-d.ensures (not-false _ c.if-not-d.false), num_bad (behind key_sender (num_at (2 ^ 64)) c.args.s.now c.data_field-d.result.next) c.num_field-3.ensures c.in_default-num_field-2.is) refl
+pub returns-in_err-sender : goal.returns-in_err-sender
+unfolding pipeline_at whole pipeline_fields both on
+returns-in_err-sender c = rw (c.from_residual-in_err-sender.ensures, sym c.read_field.ensures ∙ c.in_ok-transaction_id.was, sym c.read_field-2.ensures ∙ c.in_ok-state.was, sym c.read_field-3.ensures ∙ c.in_ok-flags_bitmap.was, sym c.read_field-4.ensures ∙ c.in_ok-abort_flag.was, sym c.read_field-5.ensures ∙ c.in_ok-nack_tx_id.was, sym c.read_field-6.ensures ∙ c.in_ok-transaction_data.was, sym c.read_field-7.ensures ∙ c.in_err-sender.was)
 
-pub returns-in_default-tx_field : goal.returns-in_default-tx_field
-unfolding pipeline_read_of whole pipeline_fields both on
-returns-in_default-tx_field c = c.no_pipeline-in_default-tx_field.ensures ∙ rw (num_got (behind key_transaction_id (num_at (2 ^ 64)) c.args.s.now (0)) c.num_field.ensures c.in-Got.is, phase_got (behind key_state phase_at c.args.s.now c.in-Got.o1) c.phase_field.ensures c.in-Got-phase_field.is, bitmap_got (behind key_flags_bitmap bitmap_at c.args.s.now c.in-Got-phase_field.o2) c.bitmap_field.ensures c.in-Got-bitmap_field.is, bool_got (behind key_abort_flag bool_at c.args.s.now c.in-Got-bitmap_field.o3) c.bool_field.ensures c.in-Got-bool_field.is, num_got (behind key_nack_tx_id (num_at (2 ^ 64)) c.args.s.now c.in-Got-bool_field.o4) c.num_field-2.ensures c.in-Got-num_field.is, data_got (behind key_transaction_data data_at c.args.s.now c.in-Got-num_field.o5) c.data_field-d.ensures (not-false _ c.if-not-d.false), num_got (behind key_sender (num_at (2 ^ 64)) c.args.s.now c.data_field-d.result.next) c.num_field-3.ensures c.in-Got-num_field-2.is, tx_bad (behind key_piggyback_tx tx_at c.args.s.now c.in-Got-num_field-2.o7) c.tx_field.ensures c.in_default-tx_field.is) refl
+pub returns-in_err-piggyback_tx : goal.returns-in_err-piggyback_tx
+unfolding pipeline_at whole pipeline_fields both on
+returns-in_err-piggyback_tx c = rw (c.from_residual-in_err-piggyback_tx.ensures, sym c.read_field.ensures ∙ c.in_ok-transaction_id.was, sym c.read_field-2.ensures ∙ c.in_ok-state.was, sym c.read_field-3.ensures ∙ c.in_ok-flags_bitmap.was, sym c.read_field-4.ensures ∙ c.in_ok-abort_flag.was, sym c.read_field-5.ensures ∙ c.in_ok-nack_tx_id.was, sym c.read_field-6.ensures ∙ c.in_ok-transaction_data.was, sym c.read_field-7.ensures ∙ c.in_ok-sender.was, sym c.read_field-8.ensures ∙ c.in_err-piggyback_tx.was)
 
-pub returns-in_default-state_field : goal.returns-in_default-state_field
-unfolding pipeline_read_of whole pipeline_fields both on
-returns-in_default-state_field c = c.no_pipeline-in_default-state_field.ensures ∙ rw (num_got (behind key_transaction_id (num_at (2 ^ 64)) c.args.s.now (0)) c.num_field.ensures c.in-Got.is, phase_got (behind key_state phase_at c.args.s.now c.in-Got.o1) c.phase_field.ensures c.in-Got-phase_field.is, bitmap_got (behind key_flags_bitmap bitmap_at c.args.s.now c.in-Got-phase_field.o2) c.bitmap_field.ensures c.in-Got-bitmap_field.is, bool_got (behind key_abort_flag bool_at c.args.s.now c.in-Got-bitmap_field.o3) c.bool_field.ensures c.in-Got-bool_field.is, num_got (behind key_nack_tx_id (num_at (2 ^ 64)) c.args.s.now c.in-Got-bool_field.o4) c.num_field-2.ensures c.in-Got-num_field.is, data_got (behind key_transaction_data data_at c.args.s.now c.in-Got-num_field.o5) c.data_field-d.ensures (not-false _ c.if-not-d.false), num_got (behind key_sender (num_at (2 ^ 64)) c.args.s.now c.data_field-d.result.next) c.num_field-3.ensures c.in-Got-num_field-2.is, tx_got (behind key_piggyback_tx tx_at c.args.s.now c.in-Got-num_field-2.o7) c.tx_field.ensures c.in-Got-tx_field.is, state_bad (behind key_piggyback_state state_at c.args.s.now c.in-Got-tx_field.o8) c.state_field.ensures c.in_default-state_field.is) refl
+pub returns-in_err-piggyback_state : goal.returns-in_err-piggyback_state
+unfolding pipeline_at whole pipeline_fields both on
+returns-in_err-piggyback_state c = rw (c.from_residual-in_err-piggyback_state.ensures, sym c.read_field.ensures ∙ c.in_ok-transaction_id.was, sym c.read_field-2.ensures ∙ c.in_ok-state.was, sym c.read_field-3.ensures ∙ c.in_ok-flags_bitmap.was, sym c.read_field-4.ensures ∙ c.in_ok-abort_flag.was, sym c.read_field-5.ensures ∙ c.in_ok-nack_tx_id.was, sym c.read_field-6.ensures ∙ c.in_ok-transaction_data.was, sym c.read_field-7.ensures ∙ c.in_ok-sender.was, sym c.read_field-8.ensures ∙ c.in_ok-piggyback_tx.was, sym c.read_field-9.ensures ∙ c.in_err-piggyback_state.was)
 
 pub returns-then-not-ends_at : goal.returns-then-not-ends_at
-unfolding pipeline_read_of whole pipeline_fields both on
-returns-then-not-ends_at c = c.no_pipeline-then-not-ends_at.ensures ∙ rw (num_got (behind key_transaction_id (num_at (2 ^ 64)) c.args.s.now (0)) c.num_field.ensures c.in-Got.is, phase_got (behind key_state phase_at c.args.s.now c.in-Got.o1) c.phase_field.ensures c.in-Got-phase_field.is, bitmap_got (behind key_flags_bitmap bitmap_at c.args.s.now c.in-Got-phase_field.o2) c.bitmap_field.ensures c.in-Got-bitmap_field.is, bool_got (behind key_abort_flag bool_at c.args.s.now c.in-Got-bitmap_field.o3) c.bool_field.ensures c.in-Got-bool_field.is, num_got (behind key_nack_tx_id (num_at (2 ^ 64)) c.args.s.now c.in-Got-bool_field.o4) c.num_field-2.ensures c.in-Got-num_field.is, data_got (behind key_transaction_data data_at c.args.s.now c.in-Got-num_field.o5) c.data_field-d.ensures (not-false _ c.if-not-d.false), num_got (behind key_sender (num_at (2 ^ 64)) c.args.s.now c.data_field-d.result.next) c.num_field-3.ensures c.in-Got-num_field-2.is, tx_got (behind key_piggyback_tx tx_at c.args.s.now c.in-Got-num_field-2.o7) c.tx_field.ensures c.in-Got-tx_field.is, state_got (behind key_piggyback_state state_at c.args.s.now c.in-Got-tx_field.o8) c.state_field.ensures c.in-Got-state_field.is, sym c.ends_at.ensures ∙ c.if-not-ends_at.true) refl
+unfolding pipeline_at whole pipeline_fields both on
+returns-then-not-ends_at c = rw (sym c.read_field.ensures ∙ c.in_ok-transaction_id.was, sym c.read_field-2.ensures ∙ c.in_ok-state.was, sym c.read_field-3.ensures ∙ c.in_ok-flags_bitmap.was, sym c.read_field-4.ensures ∙ c.in_ok-abort_flag.was, sym c.read_field-5.ensures ∙ c.in_ok-nack_tx_id.was, sym c.read_field-6.ensures ∙ c.in_ok-transaction_data.was, sym c.read_field-7.ensures ∙ c.in_ok-sender.was, sym c.read_field-8.ensures ∙ c.in_ok-piggyback_tx.was, sym c.read_field-9.ensures ∙ c.in_ok-piggyback_state.was, sym c.ends_at.ensures ∙ c.if-not-ends_at.true)
 
 pub returns : goal.returns
-unfolding pipeline_read_of whole pipeline_fields both on
-returns c = rw (num_got (behind key_transaction_id (num_at (2 ^ 64)) c.args.s.now (0)) c.num_field.ensures c.in-Got.is, phase_got (behind key_state phase_at c.args.s.now c.in-Got.o1) c.phase_field.ensures c.in-Got-phase_field.is, bitmap_got (behind key_flags_bitmap bitmap_at c.args.s.now c.in-Got-phase_field.o2) c.bitmap_field.ensures c.in-Got-bitmap_field.is, bool_got (behind key_abort_flag bool_at c.args.s.now c.in-Got-bitmap_field.o3) c.bool_field.ensures c.in-Got-bool_field.is, num_got (behind key_nack_tx_id (num_at (2 ^ 64)) c.args.s.now c.in-Got-bool_field.o4) c.num_field-2.ensures c.in-Got-num_field.is, data_got (behind key_transaction_data data_at c.args.s.now c.in-Got-num_field.o5) c.data_field-d.ensures (not-false _ c.if-not-d.false), num_got (behind key_sender (num_at (2 ^ 64)) c.args.s.now c.data_field-d.result.next) c.num_field-3.ensures c.in-Got-num_field-2.is, tx_got (behind key_piggyback_tx tx_at c.args.s.now c.in-Got-num_field-2.o7) c.tx_field.ensures c.in-Got-tx_field.is, state_got (behind key_piggyback_state state_at c.args.s.now c.in-Got-tx_field.o8) c.state_field.ensures c.in-Got-state_field.is, sym c.ends_at.ensures ∙ c.if-not-ends_at.false)
+unfolding pipeline_at whole pipeline_fields both on
+returns c = rw (sym c.read_field.ensures ∙ c.in_ok-transaction_id.was, sym c.read_field-2.ensures ∙ c.in_ok-state.was, sym c.read_field-3.ensures ∙ c.in_ok-flags_bitmap.was, sym c.read_field-4.ensures ∙ c.in_ok-abort_flag.was, sym c.read_field-5.ensures ∙ c.in_ok-nack_tx_id.was, sym c.read_field-6.ensures ∙ c.in_ok-transaction_data.was, sym c.read_field-7.ensures ∙ c.in_ok-sender.was, sym c.read_field-8.ensures ∙ c.in_ok-piggyback_tx.was, sym c.read_field-9.ensures ∙ c.in_ok-piggyback_state.was, sym c.ends_at.ensures ∙ c.if-not-ends_at.false)

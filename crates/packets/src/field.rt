@@ -1,0 +1,211 @@
+// RULES 5.3, 5.4 and 7.5. What stands in a packet's fields: the text of each value, how long it is, how it is written
+// and how it is read.
+ghost use Rattle.std.specs.Prelude.{◌≡◌, ⊤, true, false, ℕ, List, ◌++◌, ◌^◌, ◌+◌, ◌≤◌, ◌<◌, length};
+ghost use Rattle.limits.specs.Limits.{bitmap_entries, data_bytes};
+ghost use Rattle.texts.specs.Put.{Put, Room};
+ghost use Rattle.texts.specs.Decimal.{decimal};
+ghost use Rattle.texts.specs.Readers.{Reader, behind, num_at, bool_at, bool_text};
+ghost use Rattle.packets.specs.Packets.{Within, phase_text, bitmap_text, data_text, option_text};
+ghost use Rattle.packets.specs.Reading.{phase_at, bitmap_at, data_at, option_at};
+
+use crate::{Bitmap, Data, TwoPcPhase, len, put, read};
+
+pub(crate) trait Field: Copy {
+    // The text of a value.
+    ghost text: { Self → List ℕ };
+
+    // The values that have one within the limits, and how long it is at most.
+    ghost Fits: { Self → Type 0 };
+
+    ghost most: { ℕ };
+
+    // What is found where a value may stand.
+    ghost found: { Reader Self };
+
+    fn text_len(self) -> usize
+        requires { Fits self }
+        ensures { (result ≡ length (text self)) × (result ≤ most) };
+
+    // Called where the text fits; leaves every other byte as it was, and answers with the place behind the text.
+    fn put(self, buf: &mut [u8], at: usize) -> usize
+        requires { Fits self × Room buf.old at (text self) }
+        ensures { Put buf.old at (text self) result buf.new };
+
+    // Takes exactly what `put` writes, and answers with the place behind it.
+    fn read(s: &[u8], at: usize) -> Option<(Self, usize)>
+        ensures { result ≡ found s.now at };
+}
+
+impl Field for u64 {
+    ghost text = { decimal };
+
+    ghost Fits = { λ _. ⊤ };
+
+    ghost most = { 20 };
+
+    ghost found = { num_at (2 ^ 64) };
+
+    fn text_len(self) -> usize {
+        len::decimal_len(self)
+    }
+
+    fn put(self, buf: &mut [u8], at: usize) -> usize {
+        put::put_decimal(buf, at, self)
+    }
+
+    fn read(s: &[u8], at: usize) -> Option<(u64, usize)> {
+        read::read_num(s, at, u64::MAX)
+    }
+}
+
+impl Field for bool {
+    ghost text = { bool_text };
+
+    ghost Fits = { λ _. ⊤ };
+
+    ghost most = { 5 };
+
+    ghost found = { bool_at };
+
+    fn text_len(self) -> usize {
+        if self { 4 } else { 5 }
+    }
+
+    fn put(self, buf: &mut [u8], at: usize) -> usize {
+        if self {
+            put::put_all(buf, at, b"true")
+        } else {
+            put::put_all(buf, at, b"false")
+        }
+    }
+
+    fn read(s: &[u8], at: usize) -> Option<(bool, usize)> {
+        read::read_bool(s, at)
+    }
+}
+
+impl Field for TwoPcPhase {
+    ghost text = { phase_text };
+
+    ghost Fits = { λ _. ⊤ };
+
+    ghost most = { 11 };
+
+    ghost found = { phase_at };
+
+    fn text_len(self) -> usize {
+        match self {
+            TwoPcPhase::Prepare => 9,
+            TwoPcPhase::Committed => 11,
+            TwoPcPhase::Aborted => 9,
+        }
+    }
+
+    fn put(self, buf: &mut [u8], at: usize) -> usize {
+        match self {
+            TwoPcPhase::Prepare => put::put_all(buf, at, b"\"Prepare\""),
+            TwoPcPhase::Committed => put::put_all(buf, at, b"\"Committed\""),
+            TwoPcPhase::Aborted => put::put_all(buf, at, b"\"Aborted\""),
+        }
+    }
+
+    fn read(s: &[u8], at: usize) -> Option<(TwoPcPhase, usize)> {
+        read::read_phase(s, at)
+    }
+}
+
+impl Field for Bitmap {
+    ghost text = { bitmap_text };
+
+    ghost Fits = { λ b. b.len ≤ bitmap_entries };
+
+    ghost most = { 386 };
+
+    ghost found = { bitmap_at };
+
+    fn text_len(self) -> usize {
+        len::bitmap_len(self)
+    }
+
+    fn put(self, buf: &mut [u8], at: usize) -> usize {
+        put::put_bitmap(buf, at, self)
+    }
+
+    fn read(s: &[u8], at: usize) -> Option<(Bitmap, usize)> {
+        read::read_bitmap(s, at)
+    }
+}
+
+impl Field for Data {
+    ghost text = { data_text };
+
+    ghost Fits = { λ d. d.len ≤ data_bytes };
+
+    ghost most = { 129 };
+
+    ghost found = { data_at };
+
+    fn text_len(self) -> usize {
+        len::data_len(self)
+    }
+
+    fn put(self, buf: &mut [u8], at: usize) -> usize {
+        put::put_data(buf, at, self)
+    }
+
+    fn read(s: &[u8], at: usize) -> Option<(Data, usize)> {
+        read::read_data(s, at)
+    }
+}
+
+// What may be absent: null, or a value.
+impl<T: Field> Field for Option<T> {
+    ghost text = { option_text T.text };
+
+    ghost Fits = { Within T.Fits };
+
+    ghost most = { 4 + T.most };
+
+    ghost found = { option_at T.found };
+
+    fn text_len(self) -> usize {
+        match self {
+            None => 4,
+            Some(value) => value.text_len(),
+        }
+    }
+
+    fn put(self, buf: &mut [u8], at: usize) -> usize {
+        match self {
+            None => put::put_all(buf, at, b"null"),
+            Some(value) => value.put(buf, at),
+        }
+    }
+
+    fn read(s: &[u8], at: usize) -> Option<(Option<T>, usize)> {
+        if read::lit_at(s, at, b"null") {
+            return Some((None, at + 4));
+        }
+        let (value, next) = T::read(s, at)?;
+        Some((Some(value), next))
+    }
+}
+
+// A field: its name, with what stands around it, and the value.
+pub(crate) fn put_field<T: Field>(buf: &mut [u8], at: usize, key: &[u8], value: T) -> usize
+    requires { T.Fits value × Room buf.old at (key.now ++ T.text value) }
+    ensures { Put buf.old at (key.now ++ T.text value) result buf.new }
+{
+    let next = put::put_all(buf, at, key);
+    value.put(buf, next)
+}
+
+pub(crate) fn read_field<T: Field>(s: &[u8], at: usize, key: &[u8]) -> Option<(T, usize)>
+    requires { 0 < length key.now }
+    ensures { result ≡ behind key.now T.found s.now at }
+{
+    if !read::lit_at(s, at, key) {
+        return None;
+    }
+    T::read(s, at + key.len())
+}
