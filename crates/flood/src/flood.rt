@@ -39,6 +39,7 @@ pub struct Flooded {
 
 // How many slots a round may take. A diameter lies below 64, and a longer one is taken for 64: so the product cannot
 // wrap.
+#[tactic(auto, using(crate::proofs::Flooding::length_fits), unfolding(crate::specs::Flood::flood_length))]
 pub fn flood_length(given: bool, slots: u64, diameter: usize, repeats: u32) -> u64
     ensures { result ≡ flood_length given slots diameter repeats }
 {
