@@ -1,6 +1,6 @@
 // RULES 7.1 and 7.2. Ported from node.rs: a position's state, its counts, and one slot's tick. The payload is held
 // beside the node.
-ghost use Rattle.std.specs.Prelude.{◌≡◌, ℕ, ◌&&◌, ◌||◌, ◌==◌, nat_lt};
+ghost use Rattle.std.specs.Prelude.{◌≡◌, ℕ, ◌&&◌, ◌||◌, ◌==◌, ◌<◌, nat_lt};
 ghost use Rattle.loops.specs.Upto.{upto};
 ghost use Rattle.marks.specs.Marks.{has};
 ghost use Rattle.engines.specs.Clamp.{at_most64};
@@ -76,7 +76,7 @@ impl Node {
 
 // Each of the first n positions changed by f, which is told its number.
 pub fn change_all<F: Fn(usize, Node) -> Node>(nodes: [Node; 64], n: usize, f: F) -> [Node; 64]
-    requires { F.IsAlwaysCallable f }
+    requires { (i : ℕ) (v : Node) → i < 64 → F.pre f i v }
     ensures { (h : ℕ → Node → Node) → ((i : ℕ) (v w : Node) → F.post f i v w → w ≡ h i v) → result ≡ upto (at_most64 n) (place no_node h) nodes }
 {
     let mut changed = nodes;
