@@ -1,9 +1,10 @@
 -- RULES 8.3 and 8.4: a target hears a flooding position that has it as neighbour, or nobody; and only a listening
 -- position that is due recovers. Assumes nothing.
-use Rattle.std.proofs.Common.{◌≡◌, ℕ, zero, suc, ◌+◌, ◌-◌, ◌<◌, ◌≤◌, Bool, true, false, ◌||◌, eqb, ltb, ◌⊎◌, List, [], ◌∷◌, length, get_or, set, replicate, sym, refl, ap, ◌∙◌, subst, inl, inr, ⊎_elim, true≢false, arith, length-set, get_or-set_other, get_or-set_same, eqb-true}
+use Rattle.std.proofs.Common.{◌≡◌, ℕ, zero, suc, ◌+◌, ◌-◌, ◌<◌, ◌≤◌, Bool, true, false, Option, None, Some, ◌||◌, eqb, ltb, ◌⊎◌, List, [], ◌∷◌, length, get_or, set, replicate, sym, refl, ap, ◌∙◌, subst, inl, inr, ⊎_elim, true≢false, arith, length-set, get_or-set_other, get_or-set_same, eqb-true}
 use lib.ListN.{length-replicate, get_or-replicate}
 use lib.Ieee.{Float}
 use borrow.Author.Tests.{eqb-false}
+use Rattle.std.specs.Option.{IfSome, unwrap_or}
 use Rattle.loops.specs.Pick.{either}
 use Rattle.loops.specs.Upto.{upto, upto_holds}
 use Rattle.loops.specs.Downto.{downto}
@@ -14,7 +15,7 @@ use Rattle.marks.specs.Sets.{and_true, has_marks}
 use Rattle.engines.specs.Clamp.{at_most64}
 use Rattle.engines.specs.Marked.{over_marks, with_mark}
 use Rattle.engines.specs.Settings.{is_lossy}
-use Rattle.engines.specs.Words.{next_of, coin_of, pick_of, Order, swapped, swap_step, shuffled}
+use Rattle.engines.specs.Words.{next_of, coin_of, lost_of, pick_of, Order, swapped, swap_step, shuffled}
 use Rattle.capture.specs.Plan.{Plan, timed_out, tossed1, toss_at, coins_of, Recovers, Senders, note_at, senders_of, examine1, is_found, unheard, first_kept, heard_from, capture_of, whom, Captured, capture_at, targets_in, none_yet, captures_of, plan_after, plan_of, Sender, Hears}
 use Rattle.engines.proofs.Drawing.{pick_le}
 use Rattle.capture.proofs.Hearing.{examined_more}
@@ -64,15 +65,20 @@ module _ (Q : ℕ → Type 0) where
 
   -- whoever is found is one of them
   abbrev Found : Heard → Type 0
-  Found h = h.found ≡ true → Q h.src
+  Found h = IfSome h.src Q
 
-  either_src : (b : Bool) (g h : Heard) → Q g.src → Q h.src → Q (either b g h).src
-  either_src true g h p q = p
-  either_src false g h p q = q
+  either_found : (b : Bool) (g h : Heard) → Found g → Found h → Found (either b g h)
+  either_found true g h p q = p
+  either_found false g h p q = q
 
-  examined_good : (ws ids : List ℕ) (loss : Float) (count : ℕ) (h : Heard) → h.examined < count → Good ids count → Q (examine1 ws ids loss h).src
+  kept_if : (gone : Bool) (s : ℕ) → Q s → IfSome (either gone None (Some s)) Q
+  kept_if true s q = tt
+  kept_if false s q = q
+
+  examined_good : (ws ids : List ℕ) (loss : Float) (count : ℕ) (h : Heard) → h.examined < count → Good ids count → Found (examine1 ws ids loss h)
   unfolding examine1
-  examined_good ws ids loss count h l g = either_src (is_lossy loss) _ _ (g.all h.examined l) (g.all h.examined l)
+  examined_good ws ids loss count h l g =
+      either_found (is_lossy loss) _ _ (kept_if (lost_of (next_of ws h.draw).word loss) (get_or ids h.examined 0) (g.all h.examined l)) (g.all h.examined l)
 
   go_good : (ws ids : List ℕ) (loss : Float) (count : ℕ) → Good ids count → (k : ℕ) (b : Bool) (h : Heard) → h.examined + k ≤ count → Found h → Found (go is_found (examine1 ws ids loss) k b h)
   unfolding go
@@ -80,14 +86,11 @@ module _ (Q : ℕ → Type 0) where
   go_good ws ids loss count g (suc k) true h l p = p
   go_good ws ids loss count g (suc k) false h l p =
       let n = examine1 ws ids loss h in
-      go_good ws ids loss count g k (is_found n) n (omega (arith, examined_more ws ids loss h)) (λ e. examined_good ws ids loss count h (omega arith) g)
-
-  none_found : (d : Draw) → Found (unheard d)
-  none_found d e = absurd (let z : ◌≡◌ {A = ℕ} 0 1 = cc in omega arith)
+      go_good ws ids loss count g k (is_found n) n (omega (arith, examined_more ws ids loss h)) (examined_good ws ids loss count h (omega arith) g)
 
   kept_good : (ws : List ℕ) (loss : Float) (count : ℕ) (o : Order) → Good o.ids count → Found (first_kept ws loss count o)
   unfolding first_kept
-  kept_good ws loss count o g = go_good ws o.ids loss count g count false (unheard o.draw) (omega arith) (none_found o.draw)
+  kept_good ws loss count o g = go_good ws o.ids loss count g count false (unheard o.draw) (omega arith) tt
 
 module _ (links : List ℕ) (flooding t : ℕ) where
   abbrev Is : ℕ → Type 0
@@ -129,15 +132,15 @@ module _ (links : List ℕ) (flooding t : ℕ) where
   unfolding senders_of over_marks
   senders_good = (noted 64 (omega arith)).good
 
-  pub capture_sender : (ws : List ℕ) (loss : Float) (d : Draw) → (capture_of ws loss links flooding t d).found ≡ true → Sender links flooding t (capture_of ws loss links flooding t d).src
+  pub capture_sender : (ws : List ℕ) (loss : Float) (d : Draw) → IfSome (capture_of ws loss links flooding t d).src (Sender links flooding t)
   unfolding capture_of heard_from
   capture_sender ws loss d =
       let f = senders_of links flooding t in
       kept_good Is ws loss f.count (shuffled ws f.count (record { ids = f.ids; draw = d })) (shuffled_good Is ws f.count (record { ids = f.ids; draw = d }) senders_good)
 
-  whom_hears : (h : Heard) (b : Bool) → h.found ≡ b → (h.found ≡ true → Sender links flooding t h.src) → Hears links flooding t (either b h.src 64)
-  whom_hears h true e p = inr (p e)
-  whom_hears h false e p = inl refl
+  whom_hears : (s : Option ℕ) → IfSome s (Sender links flooding t) → Hears links flooding t (unwrap_or s 64)
+  whom_hears None p = inl refl
+  whom_hears (Some s) p = inr p
 
 -- every entry of a list of whom the targets hear
 record Fair (links : List ℕ) (flooding : ℕ) (p : Captured) : Type 0 where
@@ -152,7 +155,7 @@ module _ (ws : List ℕ) (loss : Float) (links : List ℕ) (flooding : ℕ) wher
       record {
         long = length-set p.hears i (whom c) ∙ q.long;
         each = λ t. at_set (λ s. Hears links flooding t s) p.hears i (whom c) 64 t (omega (arith, q.long))
-            (λ e. subst (λ (x : ℕ). Hears links flooding x (whom c)) (sym e) (whom_hears links flooding i c c.found refl (capture_sender links flooding i ws loss p.tally.draw)))
+            (λ e. subst (λ (x : ℕ). Hears links flooding x (whom c)) (sym e) (whom_hears links flooding i c.src (capture_sender links flooding i ws loss p.tally.draw)))
             (λ n. q.each t);
       }
 

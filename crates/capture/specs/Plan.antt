@@ -1,7 +1,8 @@
 -- RULES 8.3, 8.4 and 3.4, one slot from its coins to its captures: what the words decide, before anything is merged.
 -- A link from s to t says that t hears s: row s of the links has mark t. Assumes nothing.
-use Rattle.std.specs.Prelude.{◌≡◌, ℕ, ◌+◌, ◌-◌, ◌%◌, ◌^◌, ◌<◌, Bool, true, false, not, ◌&&◌, ◌⊎◌, List, replicate, nat_le, slice_index, slice_index_or, slice_set, Float}
+use Rattle.std.specs.Prelude.{◌≡◌, ℕ, ◌+◌, ◌-◌, ◌%◌, ◌^◌, ◌<◌, Bool, true, not, None, Some, ◌&&◌, ◌⊎◌, List, replicate, nat_le, slice_index, slice_index_or, slice_set, Float}
 use mir.Val.{bool_byte}
+use Rattle.std.specs.Option.{is_some, unwrap_or}
 use Rattle.loops.specs.Pick.{either}
 use Rattle.loops.specs.Runs.{runs}
 use Rattle.marks.specs.Marks.{has, marks, count_of}
@@ -54,19 +55,19 @@ senders_of links flooding t = over_marks flooding (note_at links t) (record { id
 
 -- One sender is examined: with a loss above 0 it takes a draw to survive, else it survives without.
 abbrev pub drawn_by : List ℕ → Float → Heard → Drawn → Heard
-drawn_by ids loss h x = record { examined = h.examined + 1; found = not (lost_of x.word loss); src = slice_index ids h.examined; draw = x.draw }
+drawn_by ids loss h x = record { examined = h.examined + 1; src = either (lost_of x.word loss) None (Some (slice_index ids h.examined)); draw = x.draw }
 
 unfoldable pub examine1 : List ℕ → List ℕ → Float → Heard → Heard
 examine1 ws ids loss h =
     either (is_lossy loss)
     (drawn_by ids loss h (next_of ws h.draw))
-    (record { examined = h.examined + 1; found = true; src = slice_index ids h.examined; draw = h.draw })
+    (record { examined = h.examined + 1; src = Some (slice_index ids h.examined); draw = h.draw })
 
 abbrev pub is_found : Heard → Bool
-is_found h = h.found
+is_found h = is_some h.src
 
 abbrev pub unheard : Draw → Heard
-unheard d = record { examined = 0; found = false; src = 0; draw = d }
+unheard d = record { examined = 0; src = None; draw = d }
 
 -- The senders in their shuffled order, until one survives.
 unfoldable pub first_kept : List ℕ → Float → ℕ → Order → Heard
@@ -86,14 +87,14 @@ pub record Captured : Type 0 where
   pub tally : Reception
 
 unfoldable pub whom : Heard → ℕ
-whom h = either h.found h.src 64
+whom h = unwrap_or h.src 64
 
 unfoldable pub tallied : Reception → Heard → Reception
 tallied p h =
     record {
       draw = h.draw;
       rx_attempts = (p.rx_attempts + h.examined) % 2 ^ 64;
-      rx_success = (p.rx_success + bool_byte h.found) % 2 ^ 64;
+      rx_success = (p.rx_success + bool_byte (is_found h)) % 2 ^ 64;
     }
 
 abbrev pub heard_at : ℕ → Captured → Heard → Captured

@@ -14,9 +14,9 @@ ghost use Rattle.engines.specs.Columns.{cell, row_put};
 ghost use Rattle.merges.specs.declared.merging.Payload.{Payload};
 
 use super::capture::CeState;
-use engines::clamp;
 use engines::metrics::MetricsCollector;
 use engines::network::{Network, RoundConf};
+use engines::node;
 use engines::node::{Node, NodeState, StateSets};
 use engines::words::Draw;
 use graph::sets;
@@ -81,6 +81,7 @@ pub struct CeFixed {
 
 // ---- one position, read
 
+#[tactic(auto, unfolding(crate::specs::Boards::state_by))]
 fn state_by(s: StateSets, i: usize) -> NodeState
     ensures { result ≡ state_by s i }
 {
@@ -93,18 +94,16 @@ fn state_by(s: StateSets, i: usize) -> NodeState
     NodeState::Listen
 }
 
+#[tactic(auto, unfolding(crate::specs::Boards::holds_by))]
 pub(crate) fn holds(p: Phases, i: usize) -> bool
     ensures { result ≡ holds_by p i }
 {
-    if sets::is_marked(p.prepared, i) {
-        return true;
-    }
-    if sets::is_marked(p.committed, i) {
-        return true;
-    }
-    sets::is_marked(p.aborted, i)
+    sets::is_marked(p.prepared, i)
+        || sets::is_marked(p.committed, i)
+        || sets::is_marked(p.aborted, i)
 }
 
+#[tactic(auto, unfolding(crate::specs::Boards::phase_by))]
 fn phase_by(p: Phases, i: usize) -> TwoPcPhase
     ensures { result ≡ phase_by p i }
 {
@@ -117,6 +116,7 @@ fn phase_by(p: Phases, i: usize) -> TwoPcPhase
     TwoPcPhase::Prepare
 }
 
+#[tactic(auto, unfolding(crate::specs::Boards::held_by))]
 pub(crate) fn held_by(p: Phases, i: usize) -> Held
     ensures { result ≡ held_by p i }
 {
@@ -130,20 +130,19 @@ pub(crate) fn held_by(p: Phases, i: usize) -> Held
 }
 
 // What position i holds, if it holds a packet.
+#[tactic(auto, unfolding(crate::specs::Boards::slip_by, engines::specs::Columns::cell))]
 pub(crate) fn slip_at(p: Phases, table: &[u64; 576], i: usize) -> Slip
     requires { i < 64 }
     ensures { result ≡ slip_by p table.now i }
 {
-    let phase = phase_by(p, i);
-    let flags_bitmap = Bitmap {
-        len: table[LEN + i] as usize,
-        marks: table[MARKS + i],
-    };
     Slip {
         term: table[TERM + i],
-        phase,
+        phase: phase_by(p, i),
         source: table[FROM + i],
-        flags_bitmap,
+        flags_bitmap: Bitmap {
+            len: table[LEN + i] as usize,
+            marks: table[MARKS + i],
+        },
     }
 }
 
@@ -198,6 +197,7 @@ pub struct Noted {
 }
 
 // The numbers of position i when the round begins: its last progress is the round's start, and its data are its own.
+#[tactic(auto, unfolding(engines::specs::Columns::row_put))]
 fn take_position(table: &mut [u64; 576], i: usize, slot: u64, v: Node, l: Payload)
     requires { i < 64 }
     ensures table_after { table.new ≡ row_put 0 i (row_for slot i v l) table.old }
@@ -224,10 +224,8 @@ fn note_phases(p: Phases, i: usize, held: Held, phase: TwoPcPhase) -> Phases
     match held {
         Held::Empty => p,
         Held::Unreadable => Phases {
-            prepared: p.prepared,
-            committed: p.committed,
-            aborted: p.aborted,
             unreadable: put(p.unreadable, i, true),
+            ..p
         },
         Held::Packet => put_phase(p, i, phase),
     }
@@ -240,14 +238,9 @@ fn note(n: usize, s: Noted, i: usize, v: Node, l: Payload) -> Noted
     ensures by_index_2 { (j : ℕ) → has result.can_sleep j ≡ either (j == i) (can_sleep_of n l) (has s.can_sleep j) }
     ensures noted_at { NotedAt s.phases i l.held l.packet.phase result.phases }
 {
-    let held = l.held;
-    let p = l.packet;
-    let phase = p.phase;
-    let before = s.phases;
-    let phases = note_phases(before, i, held, phase);
     Noted {
         goal_reached: put(s.goal_reached, i, v.goal_reached),
-        phases,
+        phases: note_phases(s.phases, i, l.held, l.packet.phase),
         can_sleep: put(s.can_sleep, i, merging::node_can_sleep(n, l)),
     }
 }
@@ -256,26 +249,22 @@ fn note(n: usize, s: Noted, i: usize, v: Node, l: Payload) -> Noted
 fn take_all(n: usize, c: CeState, table: &mut [u64; 576]) -> Noted
     ensures { length table.old ≡ 576 → Taken n (at_most64 n) c result table.new }
 {
-    let count = clamp::at_most_64(n);
     let w = c.network;
-    let phases = Phases {
-        prepared: 0,
-        committed: 0,
-        aborted: 0,
-        unreadable: 0,
-    };
     let mut s = Noted {
         goal_reached: 0,
-        phases,
+        phases: Phases {
+            prepared: 0,
+            committed: 0,
+            aborted: 0,
+            unreadable: 0,
+        },
         can_sleep: 0,
     };
-    let mut i: usize = 0;
-    while i < count {
+    for i in 0..n.min(64) {
         let v = w.nodes[i];
         let l = c.held[i];
         take_position(table, i, w.slot, v, l);
         s = note(n, s, i, v, l);
-        i += 1;
     }
     s
 }
@@ -304,37 +293,33 @@ pub(crate) fn unpack(
     ensures { length table.old ≡ 576 → (conf : RoundConf) → conf.graph.n ≡ n → Shown n c result table.new (start_of conf initiator cursor c) }
 {
     let s = take_all(n, c, table);
-    let phases = s.phases;
-    let states = first_states(n, initiator);
     let w = c.network;
-    let metrics = w.metrics;
-    let draw = Draw {
-        at: cursor,
-        short: false,
-    };
     Board {
-        states,
+        states: first_states(n, initiator),
         goal_reached: s.goal_reached,
-        phases,
+        phases: s.phases,
         can_sleep: s.can_sleep,
-        metrics,
+        metrics: w.metrics,
         slot: w.slot,
         next_row: w.next_row,
         bytes_sent: w.bytes_sent,
-        draw,
+        draw: Draw {
+            at: cursor,
+            short: false,
+        },
         ended: false,
     }
 }
 
 // ---- out
 
+#[tactic(auto, unfolding(crate::specs::Boards::node_by, engines::specs::Columns::cell))]
 fn node_by(s: StateSets, goal_reached: u64, table: &[u64; 576], i: usize, v: Node) -> Node
     requires { i < 64 }
     ensures { result ≡ node_by s goal_reached table.now i v }
 {
-    let state = state_by(s, i);
     Node {
-        state,
+        state: state_by(s, i),
         goal_reached: sets::is_marked(goal_reached, i),
         flood_remaining: 0,
         last_progress_slot: table[LAST + i],
@@ -354,17 +339,10 @@ fn pack_nodes(
 ) -> [Node; 64]
     ensures { result ≡ nodes_by n nodes s goal_reached table.now }
 {
-    let count = clamp::at_most_64(n);
-    let mut a = nodes;
-    let mut i: usize = 0;
-    while i < count {
-        let v = a[i];
-        a[i] = node_by(s, goal_reached, table, i, v);
-        i += 1;
-    }
-    a
+    node::change_all(nodes, n, |i, v| node_by(s, goal_reached, table, i, v))
 }
 
+#[tactic(auto, unfolding(crate::specs::Boards::payload_by, crate::specs::Boards::slip_by))]
 fn payload_by(p: Phases, table: &[u64; 576], i: usize, proposal_data: Data, v: Payload) -> Payload
     requires { i < 64 }
     ensures { (base : List Payload) → proposal_data ≡ data_in base (cell table.now from_at i) → result ≡ payload_by base p table.now i v }
@@ -373,62 +351,43 @@ fn payload_by(p: Phases, table: &[u64; 576], i: usize, proposal_data: Data, v: P
         return v;
     }
     let s = slip_at(p, table, i);
-    let phase = s.phase;
-    let flags_bitmap = s.flags_bitmap;
-    let packet = CeTwoPcPacket {
-        term: s.term,
-        phase,
-        proposal_data,
-        flags_bitmap,
-    };
     Payload {
         held: Held::Packet,
-        packet,
+        packet: CeTwoPcPacket {
+            term: s.term,
+            phase: s.phase,
+            proposal_data,
+            flags_bitmap: s.flags_bitmap,
+        },
     }
 }
 
 fn pack_held(held: [Payload; 64], n: usize, p: Phases, table: &[u64; 576]) -> [Payload; 64]
     ensures { result ≡ payloads_by n held p table.now }
 {
-    let count = clamp::at_most_64(n);
     let mut a = held;
-    let mut i: usize = 0;
-    while i < count {
-        let v = a[i];
+    for i in 0..n.min(64) {
         let from = (table[FROM + i] % 64) as usize;
-        let l = held[from];
-        let q = l.packet;
-        let d = q.proposal_data;
-        a[i] = payload_by(p, table, i, d, v);
-        i += 1;
+        a[i] = payload_by(p, table, i, held[from].packet.proposal_data, a[i]);
     }
     a
 }
 
 // The state that board and table show, in a round that began with c.
+#[tactic(auto, unfolding(crate::specs::Boards::seen_by))]
 pub(crate) fn pack(n: usize, c: CeState, b: Board, table: &[u64; 576]) -> CeState
     ensures { result ≡ seen_by n c b table.now }
 {
-    let w = c.network;
-    let before = w.nodes;
-    let states = b.states;
-    let nodes = pack_nodes(before, n, states, b.goal_reached, table);
-    let old = c.held;
-    let phases = b.phases;
-    let held = pack_held(old, n, phases, table);
-    let metrics = b.metrics;
-    let draw = b.draw;
-    let network = Network {
-        nodes,
-        metrics,
-        slot: b.slot,
-        next_row: b.next_row,
-        bytes_sent: b.bytes_sent,
-    };
     CeState {
-        network,
-        held,
-        draw,
+        network: Network {
+            nodes: pack_nodes(c.network.nodes, n, b.states, b.goal_reached, table),
+            metrics: b.metrics,
+            slot: b.slot,
+            next_row: b.next_row,
+            bytes_sent: b.bytes_sent,
+        },
+        held: pack_held(c.held, n, b.phases, table),
+        draw: b.draw,
         ended: b.ended,
     }
 }

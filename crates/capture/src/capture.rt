@@ -57,11 +57,12 @@ fn fixed_of(conf: RoundConf) -> CeFixed
 fn end(interval: u64, b: Board) -> Board
     ensures { result ≡ ended_by interval b }
 {
-    let mut e = b;
-    e.slot = std::num::wrapping_add_u64(b.slot, 1);
-    e.next_row = rows::next_row(b.next_row, interval, b.slot);
-    e.ended = true;
-    e
+    Board {
+        slot: b.slot.wrapping_add(1),
+        next_row: rows::next_row(b.next_row, interval, b.slot),
+        ended: true,
+        ..b
+    }
 }
 
 // The plan of the slot, applied to what all held at its start.
@@ -69,18 +70,15 @@ fn act(words: &[u64], links: &[u64; 64], f: CeFixed, b: Board, table: &mut [u64;
     ensures { (conf : RoundConf) (base c : CeState) → Goes conf links.now f → Shown conf.graph.n base b table.old c → Shown conf.graph.n base result table.new (acted words.now conf c) }
 {
     let s = b.states;
-    let d = b.draw;
-    let phases = b.phases;
-    let voting = f.voting;
     let mut hears = [64usize; 64];
-    let p = plan::plan_slot(words, links, f, s, b.slot, d, table, &mut hears);
-    let sent = ce::bytes_of(s.flooding, phases, table);
+    let p = plan::plan_slot(words, links, f, s, b.slot, b.draw, table, &mut hears);
+    let sent = ce::bytes_of(s.flooding, b.phases, table);
     let before = Told {
-        phases,
+        phases: b.phases,
         can_sleep: b.can_sleep,
         new_info: 0,
     };
-    let t = ce::tell_all(voting, p.targets, &hears, before, table);
+    let t = ce::tell_all(f.voting, p.targets, &hears, before, table);
     turns::turn(b, f.interval, p, sent, t, table)
 }
 
@@ -88,8 +86,7 @@ fn act(words: &[u64], links: &[u64; 64], f: CeFixed, b: Board, table: &mut [u64;
 fn finish(words: &[u64], links: &[u64; 64], f: CeFixed, b: Board, table: &mut [u64; 576]) -> Board
     ensures { (conf : RoundConf) (base c : CeState) → Goes conf links.now f → Shown conf.graph.n base b table.old c → Shown conf.graph.n base result table.new (finished words.now conf c) }
 {
-    let p = b.phases;
-    if idle::goal_reached(f.voting.n, p) {
+    if idle::goal_reached(f.voting.n, b.phases) {
         return end(f.interval, b);
     }
     act(words, links, f, b, table)
@@ -98,8 +95,7 @@ fn finish(words: &[u64], links: &[u64; 64], f: CeFixed, b: Board, table: &mut [u
 fn slot(words: &[u64], links: &[u64; 64], f: CeFixed, b: Board, table: &mut [u64; 576]) -> Board
     ensures { (conf : RoundConf) (base c : CeState) → Goes conf links.now f → Shown conf.graph.n base b table.old c → Shown conf.graph.n base result table.new (slot_of words.now conf c) }
 {
-    let s = b.states;
-    turns::pass(s, 1, table);
+    turns::pass(b.states, 1, table);
     finish(words, links, f, b, table)
 }
 
@@ -127,12 +123,12 @@ fn advance(
 {
     let k = idle::idle_slots(f, b, table, left);
     if 0 < k {
-        let s = b.states;
-        turns::pass(s, k, table);
-        let mut e = b;
-        e.slot = std::num::wrapping_add_u64(b.slot, k);
+        turns::pass(b.states, k, table);
         return CeStep {
-            board: e,
+            board: Board {
+                slot: b.slot.wrapping_add(k),
+                ..b
+            },
             left: left - k,
         };
     }
@@ -246,14 +242,12 @@ fn survey(words: &[u64], conf: RoundConf, c: CeState, initiator: usize, cursor: 
     ensures { Surveyed network_in over (slot_of words.now conf) conf draw_in conf.length (start_of conf initiator cursor c) result.state result.due }
 {
     let g = conf.graph;
-    let links = g.adj;
     let f = fixed_of(conf);
     let mut table = [0u64; 576];
     let b = board::unpack(g.n, c, initiator, cursor, &mut table);
-    let d = dry_run(words, &links, f, b, conf.length, &mut table);
-    let e = d.board;
+    let d = dry_run(words, &g.adj, f, b, conf.length, &mut table);
     CeSurvey {
-        state: board::pack(g.n, c, e, &table),
+        state: board::pack(g.n, c, d.board, &table),
         due: d.due,
     }
 }
@@ -270,21 +264,11 @@ fn write_rows(
     ensures { part.new ≡ placed part.old 0 (rows_of words.now conf conf.length (start_of conf initiator cursor c)) }
 {
     let g = conf.graph;
-    let links = g.adj;
     let f = fixed_of(conf);
-    let w = c.network;
-    let nodes = w.nodes;
-    let top = rows::highest_progress(nodes, g.n);
+    let top = rows::highest_progress(c.network.nodes, g.n);
     let mut table = [0u64; 576];
     let b = board::unpack(g.n, c, initiator, cursor, &mut table);
-    record_run(words, part, &links, f, b, conf.length, top, &mut table);
-}
-
-fn ran_short(c: CeState) -> bool
-    ensures { result ≡ c.draw.short }
-{
-    let d = c.draw;
-    d.short
+    record_run(words, part, &g.adj, f, b, conf.length, top, &mut table);
 }
 
 fn refuse(refusal: u64, c: CeState, used: usize) -> CeAnswer
@@ -317,7 +301,7 @@ pub fn run_ce_round(
     }
     let d = survey(words, conf, c, initiator, cursor);
     let e = d.state;
-    let late = network::late_refusal(ran_short(e), d.due, rows.len(), used);
+    let late = network::late_refusal(e.draw.short, d.due, rows.len(), used);
     if late != 0 {
         return refuse(late, c, used);
     }

@@ -33,9 +33,7 @@ fn text_len(p: Phases, table: &[u64; 576], i: usize) -> usize
     }
     let s = board::slip_at(p, table, i);
     let from = (s.source % 64) as usize;
-    let phase = s.phase;
-    let b = s.flags_bitmap;
-    two_pc_ce::ce_parts_len(s.term, phase, table[DATA + from] as usize, b)
+    two_pc_ce::ce_parts_len(s.term, s.phase, table[DATA + from] as usize, s.flags_bitmap)
 }
 
 // The bytes that the flooding positions send: each a header and the payload that it held at the slot's start.
@@ -46,7 +44,7 @@ pub(crate) fn bytes_of(flooding: u64, p: Phases, table: &[u64; 576]) -> u64
     let mut left = flooding;
     while left != 0 {
         let i = sets::lowest_mark(left);
-        sum = std::num::wrapping_add_u64(sum, network::on_air(text_len(p, table, i) as u64));
+        sum = sum.wrapping_add(network::on_air(text_len(p, table, i) as u64));
         left = sets::without_mark(left, i);
     }
     sum
@@ -59,8 +57,7 @@ fn is_decided(phase: TwoPcPhase) -> bool
 {
     match phase {
         TwoPcPhase::Prepare => false,
-        TwoPcPhase::Committed => true,
-        TwoPcPhase::Aborted => true,
+        TwoPcPhase::Committed | TwoPcPhase::Aborted => true,
     }
 }
 
@@ -68,12 +65,7 @@ fn is_decided(phase: TwoPcPhase) -> bool
 fn rests(n: usize, s: Slip) -> bool
     ensures { result ≡ rests_by n s }
 {
-    let phase = s.phase;
-    let b = s.flags_bitmap;
-    if !is_decided(phase) {
-        return false;
-    }
-    merging::has_unanimity(n, b)
+    is_decided(s.phase) && merging::has_unanimity(n, s.flags_bitmap)
 }
 
 // Position i holds s from now on, which was new to it.
@@ -81,15 +73,13 @@ fn write(n: usize, t: Told, i: usize, s: Slip, table: &mut [u64; 576]) -> Told
     requires { i < 64 }
     ensures { Written n t i s table.old result table.new }
 {
-    let phase = s.phase;
     let b = s.flags_bitmap;
-    let before = t.phases;
     table[TERM + i] = s.term;
     table[LEN + i] = b.len as u64;
     table[MARKS + i] = b.marks;
     table[FROM + i] = s.source;
     Told {
-        phases: board::put_phase(before, i, phase),
+        phases: board::put_phase(t.phases, i, s.phase),
         can_sleep: board::put(t.can_sleep, i, rests(n, s)),
         new_info: sets::with_mark(t.new_info, i),
     }
@@ -114,8 +104,7 @@ fn tell(voting: Voting, t: Told, i: usize, src: usize, table: &mut [u64; 576]) -
     if !m.news {
         return t;
     }
-    let s = m.slip;
-    write(voting.n, t, i, s, table)
+    write(voting.n, t, i, m.slip, table)
 }
 
 // Each target merges what it heard. No target is heard, so all of it is as it was held at the slot's start.

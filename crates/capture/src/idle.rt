@@ -9,23 +9,13 @@ ghost use Rattle.capture.specs.Idle.{Idle};
 ghost use Rattle.capture.specs.Boards.{last_at, goal_by, Shown, Goes};
 
 use super::board::{Board, CeFixed, LAST, Phases};
-use super::plan;
-use engines::clamp;
 use graph::sets;
 
 // The slots before a coin is due, but no more than `most`.
 fn until_due(last: u64, slot: u64, timeout: u64, most: u64) -> u64
     ensures { (result ≤ most) × (0 < result → slot - last + result ≤ timeout) }
 {
-    let since = plan::since(slot, last);
-    if timeout <= since {
-        return 0;
-    }
-    let wait = timeout - since;
-    if wait < most {
-        return wait;
-    }
-    most
+    timeout.saturating_sub(slot.saturating_sub(last)).min(most)
 }
 
 // The slots for which none of the listening positions tosses a coin, but no more than `most`.
@@ -74,10 +64,9 @@ pub(crate) fn idle_slots(f: CeFixed, b: Board, table: &[u64; 576], left: u64) ->
     if b.can_sleep != 0 {
         return 0;
     }
-    let p = b.phases;
-    if goal_reached(f.voting.n, p) {
+    if goal_reached(f.voting.n, b.phases) {
         return 0;
     }
-    let most = clamp::smaller(left, b.next_row - b.slot);
+    let most = left.min(b.next_row - b.slot);
     shortest_wait(b.states.listening, table, b.slot, f.listen_timeout, most)
 }

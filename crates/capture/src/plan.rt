@@ -1,8 +1,7 @@
 // RULES 8.3 and 8.4. The plan of a capture slot: which positions recover, and whom each target hears. It takes every
 // word that the slot takes, and needs states, last progress and links alone; what is merged by it comes after.
-ghost use Rattle.std.specs.Prelude.{◌≡◌, ◌+◌, ◌-◌, ◌<◌, ◌≤◌};
-ghost use Rattle.loops.specs.Pick.{either};
-ghost use Rattle.engines.specs.Marked.{over_marks, with_mark};
+ghost use Rattle.std.specs.Prelude.{◌≡◌, ◌+◌, ◌<◌, ◌≤◌, ℕ, List, slice_index};
+ghost use Rattle.engines.specs.Marked.{over_marks};
 ghost use Rattle.capture.specs.Plan.{timed_out, tossed1, note_at, examine1, first_kept, capture_of, whom, tallied, capture_at, targets_of};
 ghost use Rattle.capture.specs.Boards.{waiting_since, coins_by, PlannedBy};
 
@@ -19,12 +18,11 @@ pub struct Coins {
     pub draw: Draw,
 }
 
-// How many senders were examined for a target, whether one survived, and which came last.
+// How many senders were examined for a target, and which of them survived.
 #[derive(Clone, Copy)]
 pub struct Heard {
     pub examined: usize,
-    pub found: bool,
-    pub src: usize,
+    pub src: Option<usize>,
     pub draw: Draw,
 }
 
@@ -48,27 +46,13 @@ pub struct SlotPlan {
     pub rx_success: u64,
 }
 
-// The slots since the last progress; none where that lies ahead, which no room leads to.
-pub(crate) fn since(slot: u64, last: u64) -> u64
-    ensures { result ≡ slot - last }
-{
-    if slot < last { 0 } else { slot - last }
-}
-
+// Whether the slots since the last progress have reached the timeout. There are none where that progress lies ahead,
+// which no room leads to.
+#[tactic(auto, unfolding(crate::specs::Plan::timed_out))]
 fn timed_out(slot: u64, timeout: u64, last: u64) -> bool
     ensures { result ≡ timed_out slot timeout (waiting_since last) }
 {
-    timeout <= since(slot, last)
-}
-
-// m, with mark i if so told.
-fn mark_if(m: u64, i: usize, yes: bool) -> u64
-    ensures { result ≡ either yes (with_mark m i) m }
-{
-    if yes {
-        return sets::with_mark(m, i);
-    }
-    m
+    timeout <= slot.saturating_sub(last)
 }
 
 // The coin of position i, if it is due.
@@ -78,14 +62,13 @@ fn toss(words: &[u64], slot: u64, timeout: u64, last: u64, i: usize, c: Coins) -
     if !timed_out(slot, timeout, last) {
         return c;
     }
-    let d = c.draw;
-    let x = words::next(words, d);
-    let yes = words::coin(x.word);
-    let recovering = mark_if(c.recovering, i, yes);
-    let e = x.draw;
+    let x = words::next(words, c.draw);
+    if !words::coin(x.word) {
+        return Coins { draw: x.draw, ..c };
+    }
     Coins {
-        recovering,
-        draw: e,
+        recovering: sets::with_mark(c.recovering, i),
+        draw: x.draw,
     }
 }
 
@@ -140,29 +123,25 @@ fn gather(links: &[u64; 64], flooding: u64, t: usize, ids: &mut [usize; 64]) -> 
 }
 
 // The next sender is examined: only with a loss above 0 a word is drawn.
-fn examine(words: &[u64], ids: &[usize; 64], loss: f64, h: Heard) -> Heard
+#[tactic(auto, unfolding(crate::specs::Plan::examine1))]
+fn examine(words: &[u64], src: usize, loss: f64, h: Heard) -> Heard
     requires { h.examined < 64 }
-    ensures { result ≡ examine1 words.now ids.now loss h }
+    ensures { (ids : List ℕ) → slice_index ids h.examined ≡ src → result ≡ examine1 words.now ids loss h }
 {
-    let at = h.examined;
-    let d = h.draw;
-    let src = ids[at];
+    let examined = h.examined + 1;
     if !settings::is_lossy(loss) {
         return Heard {
-            examined: at + 1,
-            found: true,
-            src,
-            draw: d,
+            examined,
+            src: Some(src),
+            draw: h.draw,
         };
     }
-    let x = words::next(words, d);
+    let x = words::next(words, h.draw);
     let gone = words::lost(x.word, loss);
-    let e = x.draw;
     Heard {
-        examined: at + 1,
-        found: !gone,
-        src,
-        draw: e,
+        examined,
+        src: if gone { None } else { Some(src) },
+        draw: x.draw,
     }
 }
 
@@ -173,17 +152,14 @@ fn first_kept(words: &[u64], ids: &[usize; 64], count: usize, loss: f64, d: Draw
 {
     let mut h = Heard {
         examined: 0,
-        found: false,
-        src: 0,
+        src: None,
         draw: d,
     };
-    let mut left = count;
-    while 0 < left {
-        if h.found {
+    for &src in ids[..count].iter() {
+        if h.src.is_some() {
             return h;
         }
-        h = examine(words, ids, loss, h);
-        left -= 1;
+        h = examine(words, src, loss, h);
     }
     h
 }
@@ -198,24 +174,26 @@ fn capture(words: &[u64], links: &[u64; 64], flooding: u64, loss: f64, t: usize,
     first_kept(words, &ids, count, loss, e)
 }
 
+#[tactic(auto, unfolding(crate::specs::Plan::whom))]
 fn heard_from(h: Heard) -> usize
     ensures { result ≡ whom h }
 {
-    if h.found { h.src } else { 64 }
+    h.src.unwrap_or(64)
 }
 
+#[tactic(auto, unfolding(crate::specs::Plan::tallied))]
 fn tally(p: Reception, h: Heard) -> Reception
     ensures { result ≡ tallied p h }
 {
-    let d = h.draw;
     Reception {
-        draw: d,
-        rx_attempts: std::num::wrapping_add_u64(p.rx_attempts, h.examined as u64),
-        rx_success: std::num::wrapping_add_u64(p.rx_success, h.found as u64),
+        draw: h.draw,
+        rx_attempts: p.rx_attempts.wrapping_add(h.examined as u64),
+        rx_success: p.rx_success.wrapping_add(h.src.is_some() as u64),
     }
 }
 
 // The turn of target t; whom it hears goes into the lent list.
+#[tactic(auto, unfolding(crate::specs::Plan::capture_at))]
 fn capture_at(
     words: &[u64],
     links: &[u64; 64],
@@ -228,8 +206,7 @@ fn capture_at(
     requires { t < 64 }
     ensures { record { hears = hears.exit.now; tally = result } ≡ capture_at words.now loss links.now flooding t (record { hears = hears.entry.now; tally = p }) }
 {
-    let d = p.draw;
-    let h = capture(words, links, flooding, loss, t, d);
+    let h = capture(words, links, flooding, loss, t, p.draw);
     hears[t] = heard_from(h);
     tally(p, h)
 }
@@ -278,18 +255,16 @@ pub(crate) fn plan_slot(
 {
     let c = toss_all(words, table, slot, f.listen_timeout, s.listening, d);
     let targets = find_targets(s.listening, c.recovering);
-    let e = c.draw;
     let p = Reception {
-        draw: e,
+        draw: c.draw,
         rx_attempts: 0,
         rx_success: 0,
     };
     let q = capture_all(words, links, targets, s.flooding, f.loss_rate, hears, p);
-    let g = q.draw;
     SlotPlan {
         recovering: c.recovering,
         targets,
-        draw: g,
+        draw: q.draw,
         ce_timeouts: sets::count_marks(c.recovering) as u64,
         rx_attempts: q.rx_attempts,
         rx_success: q.rx_success,

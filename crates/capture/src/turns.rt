@@ -45,17 +45,20 @@ fn goals(before: u64, new_info: u64, p: Phases) -> u64
 }
 
 // What the plan of a slot counted, added to the room's counts.
+#[tactic(auto, unfolding(crate::specs::Turns::counted_slot))]
 fn count_slot(m: MetricsCollector, p: SlotPlan) -> MetricsCollector
     ensures { (hears : List ℕ) → result ≡ counted_slot (plan_by p hears) m }
 {
-    let mut k = m;
-    k.ce_timeouts = std::num::wrapping_add_u64(m.ce_timeouts, p.ce_timeouts);
-    k.rx_attempts = std::num::wrapping_add_u64(m.rx_attempts, p.rx_attempts);
-    k.rx_success = std::num::wrapping_add_u64(m.rx_success, p.rx_success);
-    k
+    MetricsCollector {
+        ce_timeouts: m.ce_timeouts.wrapping_add(p.ce_timeouts),
+        rx_attempts: m.rx_attempts.wrapping_add(p.rx_attempts),
+        rx_success: m.rx_success.wrapping_add(p.rx_success),
+        ..m
+    }
 }
 
 // The counts of k slots in which no state changes: each at the positions in its state.
+#[tactic(auto, unfolding(crate::specs::Boards::passed_cells))]
 pub(crate) fn pass(s: StateSets, k: u64, table: &mut [u64; 576])
     ensures { table.new ≡ passed_cells s k table.old }
 {
@@ -76,23 +79,20 @@ pub(crate) fn turn(
     ensures { TurnedBy b interval p sent t table.old result table.new }
 {
     let s = b.states;
-    let before = b.metrics;
     let phases = t.phases;
-    let draw = p.draw;
     let progressed = sets::union(p.recovering, t.new_info);
     columns::store(table, LAST, progressed, b.slot);
     let states = change(s, progressed, t.can_sleep);
-    let metrics = count_slot(before, p);
     Board {
         states,
         goal_reached: goals(b.goal_reached, t.new_info, phases),
         phases,
         can_sleep: t.can_sleep,
-        metrics,
-        slot: std::num::wrapping_add_u64(b.slot, 1),
+        metrics: count_slot(b.metrics, p),
+        slot: b.slot.wrapping_add(1),
         next_row: rows::next_row(b.next_row, interval, b.slot),
-        bytes_sent: std::num::wrapping_add_u64(b.bytes_sent, sent),
-        draw,
+        bytes_sent: b.bytes_sent.wrapping_add(sent),
+        draw: p.draw,
         ended: false,
     }
 }

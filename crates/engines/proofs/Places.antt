@@ -1,7 +1,8 @@
 -- THE LAW: a loop whose turn i changes place i alone, told by its places. `Local d step g` says that of a step; loops over all positions and
 -- loops over the marks of a set are two of its instances. Assumes nothing.
-use Rattle.std.proofs.Common.{◌≡◌, ℕ, zero, suc, ◌<◌, ◌≤◌, Bool, true, false, eqb, ltb, List, length, get_or, set, sym, refl, ap, ◌∙◌, arith, length-set, get_or-set_other, get_or-set_same, ext_get_or, ltb-false, ltb-true, eqb-true}
+use Rattle.std.proofs.Common.{◌≡◌, ℕ, zero, suc, ◌<◌, ◌≤◌, Bool, true, false, eqb, ltb, List, ◌++◌, length, take, drop, get_or, set, sym, refl, ap, ◌∙◌, arith, length-set, length-take-le, take-append-drop, get_or-set_other, get_or-set_same, ext_get_or, ltb-false, ltb-true, eqb-true}
 use borrow.Author.Tests.{eqb-false}
+use Rattle.std.proofs.lemmas.List.{get_or_append_left, set-append_left}
 use Rattle.loops.specs.Pick.{either}
 use Rattle.loops.specs.Upto.{upto, upto_keeps}
 use Rattle.marks.specs.Marks.{has}
@@ -20,6 +21,21 @@ place_local d f =
       own = λ i l h. get_or-set_same l i (f i (get_or l i d)) d h;
       other = λ i l j n. get_or-set_other l i j (f i (get_or l i d)) d n;
     }
+
+-- a loop over the front of a list
+module _ {A : Type 0} (d : A) (f : ℕ → A → A) where
+  front_turns : (xs ys : List A) (n : ℕ) → n ≤ length xs → upto n (place d f) (xs ++ ys) ≡ upto n (place d f) xs ++ ys
+  unfolding upto
+  front_turns xs ys zero b = refl
+  front_turns xs ys (suc n) b =
+      let t : List A = upto n (place d f) xs in
+      let long : n < length t = omega (arith, upto_keeps length (place d f) xs n (λ i l. length-set l i (f i (get_or l i d)))) in
+      rw (front_turns xs ys n (omega arith), get_or_append_left t ys d n long, set-append_left t ys n (f n (get_or t n d)) long)
+
+  pub front_all : (l : List A) (n : ℕ) → n ≤ length l → upto n (place d f) (take n l) ++ drop n l ≡ upto n (place d f) l
+  front_all l n b =
+      sym (front_turns (take n l) (drop n l) n (omega (arith, length-take-le n l b)))
+      ∙ ap (upto n (place d f)) (take-append-drop n l)
 
 -- a step that is taken at the marks of a set alone
 pub marked_local : {A : Type 0} (d : A) (step : ℕ → List A → List A) (g : ℕ → A → A) (m : ℕ) → Local d step g → Local d (λ i l. either (has m i) (step i l) l) (λ i x. either (has m i) (g i x) x)

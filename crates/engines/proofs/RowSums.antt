@@ -1,6 +1,11 @@
--- RULES 7.3: a row counts every position once. Assumes nothing.
-use Rattle.std.proofs.Common.{◌≡◌, ℕ, zero, suc, ◌+◌, ◌≤◌, min, Bool, true, false, ◌&&◌, ltb, List, get_or, refl, ap, ◌∙◌, arith, ltb-false, ltb-true}
+-- RULES 7.3: a row counts every position once, and tells the highest progress. Assumes nothing.
+use Rattle.std.proofs.Common.{◌≡◌, ℕ, zero, suc, ◌+◌, ◌<◌, ◌≤◌, min, max, Bool, true, false, ◌&&◌, ltb, List, [], ◌∷◌, length, take, get_or, refl, ap, ◌∙◌, arith, ltb-false, ltb-true}
 use mir.Val.{bool_byte}
+use Rattle.std.specs.List.{fold}
+use Rattle.std.proofs.Math.Seq.{take-suc}
+use Rattle.std.proofs.lemmas.List.Sums.{fold-append}
+use Rattle.loops.specs.Highest.{highest}
+use Rattle.loops.specs.Upto.{upto}
 use Rattle.marks.specs.Marks.{marks, count_of}
 use Rattle.marks.specs.Sets.{has_marks}
 use Rattle.engines.specs.Clamp.{at_most64}
@@ -36,3 +41,12 @@ row_sum slot n l h = counted_upto (at_most64 n) l 64 ∙ all n h
   where
     all : (n : ℕ) → n ≤ 64 → min 64 (at_most64 n) ≡ n
     all n h = omega arith
+
+-- the highest progress, as a fold over the first positions finds it
+pub fold_highest : (l : List Node) (n : ℕ) → n ≤ length l
+    → fold (λ p (v : Node). max p v.progress_count) 0 (take n l) ≡ highest n (λ i. (get_or l i no_node).progress_count)
+unfolding upto
+fold_highest l zero h = refl
+fold_highest l (suc n) h =
+    let low : n < length l = omega arith in
+    rw (take-suc l n no_node low, fold-append (λ p (v : Node). max p v.progress_count) 0 (take n l) (get_or l n no_node ∷ []), fold_highest l n (omega arith))

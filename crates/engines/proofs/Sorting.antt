@@ -1,5 +1,5 @@
 -- The sets of the positions in each state, as a loop over the positions finds them. Assumes nothing.
-use Rattle.std.proofs.Common.{◌≡◌, ℕ, ◌+◌, ◌^◌, ◌<◌, ◌≤◌, ◌&&◌, ◌||◌, eqb, ltb, List, get_or, refl, arith}
+use Rattle.std.proofs.Common.{◌≡◌, ℕ, ◌+◌, ◌^◌, ◌<◌, ◌≤◌, Bool, true, false, ◌&&◌, ◌||◌, eqb, ltb, List, take, get_or, refl, ap, ◌∙◌, arith, ltb-true, get_or-take}
 use Rattle.marks.specs.Marks.{has}
 use Rattle.marks.specs.Sets.{grown_none, grown_turn, grown_all}
 use Rattle.engines.specs.Clamp.{at_most64}
@@ -32,6 +32,20 @@ sorted_turn l i s r h o e =
       flooding = λ k. grown_turn (floods l) s.flooding r.flooding i k (is_flood (get_or l i no_node).state) h (o.flooding k) refl (e.1.0 k);
       sleeping = λ k. grown_turn (sleeps l) s.sleeping r.sleeping i k (is_sleep (get_or l i no_node).state) h (o.sleeping k) refl (e.1.1 k);
     }
+
+-- a loop over the front of a list
+pub sorted_front : (l : List Node) (m i : ℕ) (s : StateSets) → i ≤ m → Sorted (take m l) i s → Sorted l i s
+unfolding listens floods sleeps
+sorted_front l m i s h o =
+    record {
+      listening = λ k. o.listening k ∙ by k is_listen (ltb k i) refl;
+      flooding = λ k. o.flooding k ∙ by k is_flood (ltb k i) refl;
+      sleeping = λ k. o.sleeping k ∙ by k is_sleep (ltb k i) refl;
+    }
+  where
+    by : (k : ℕ) (f : NodeState → Bool) (b : Bool) → ltb k i ≡ b → (b && f (get_or (take m l) k no_node).state) ≡ (b && f (get_or l k no_node).state)
+    by k f true e = let low = ltb-true k i e in ap (λ v. f v.state) (get_or-take m l k no_node (omega arith))
+    by k f false e = refl
 
 pub sorted_all : (l : List Node) (n i : ℕ) (s : StateSets) → s.listening < 2 ^ 64 → s.flooding < 2 ^ 64 → s.sleeping < 2 ^ 64 → i ≤ at_most64 n → at_most64 n ≤ i → Sorted l i s → s ≡ sets_of n l
 unfolding sets_of

@@ -1,5 +1,5 @@
 -- RULES 3.2, 7.3, 7.4 and 7.5. Worked cases, computed over the rules themselves. Assumes nothing.
-use Rattle.std.specs.Prelude.{◌≡◌, ◌-◌, ◌^◌, true, false, [], ◌∷◌, refl}
+use Rattle.std.specs.Prelude.{◌≡◌, ◌-◌, ◌^◌, true, false, [], ◌∷◌, refl, None, Some}
 use Rattle.std.specs.Float.{binary64}
 use Rattle.std.specs.Float.Ieee.{of_bits, of_fields, of_int, div, round, units, odd, size, span, climb, lt, le, eq}
 use Rattle.loops.specs.Upto.{upto}
@@ -13,7 +13,6 @@ use Rattle.engines.specs.Settings.{loss_accepted, is_lossy}
 use Rattle.engines.specs.declared.node.Node.{Node}
 use Rattle.engines.specs.declared.node.NodeState.{NodeState}
 use Rattle.engines.specs.declared.node.NodeState.TheVariants.{Listen, Flood, Sleep}
-use Rattle.engines.specs.declared.metrics.Ratio.TheVariants.{None, Some}
 
 -- ---- words
 

@@ -1,11 +1,9 @@
 -- RULES 7.6: the two ratios. Assumes nothing.
-use Rattle.std.specs.Prelude.{ℕ, ◌+◌, ◌%◌, ◌^◌, pos, ◌==◌}
+use Rattle.std.specs.Prelude.{ℕ, ◌+◌, ◌%◌, ◌^◌, pos, ◌==◌, Option, None, Some, Float}
 use Rattle.std.specs.Float.{binary64}
 use Rattle.std.specs.Float.Ieee.{div, of_int}
 use Rattle.loops.specs.Pick.{either}
 use Rattle.engines.specs.declared.metrics.MetricsCollector.{MetricsCollector}
-use Rattle.engines.specs.declared.metrics.Ratio.{Ratio}
-use Rattle.engines.specs.declared.metrics.Ratio.TheVariants.{None, Some}
 
 abbrev pub no_metrics : MetricsCollector
 no_metrics =
@@ -21,13 +19,13 @@ no_metrics =
     }
 
 -- Each count as the nearest binary64 number, and their quotient; nothing where the second is 0.
-unfoldable pub ratio_of : ℕ → ℕ → Ratio
+unfoldable pub ratio_of : ℕ → ℕ → Option Float
 ratio_of part whole = either (whole == 0) None (Some (div binary64 (of_int binary64 (pos part)) (of_int binary64 (pos whole))))
 
-unfoldable pub link_pdr_of : MetricsCollector → Ratio
+unfoldable pub link_pdr_of : MetricsCollector → Option Float
 link_pdr_of m = ratio_of m.rx_success m.rx_attempts
 
-unfoldable pub flood_coverage_of : MetricsCollector → Ratio
+unfoldable pub flood_coverage_of : MetricsCollector → Option Float
 flood_coverage_of m = ratio_of m.flood_nodes_covered m.flood_nodes_total
 
 -- frames tried and received, added to what was counted before

@@ -1,57 +1,37 @@
 // RULES none. Numbers of positions in a lent table: a column has a place for each position, from its start on. A place
 // behind the table's end is none, and nothing is written there.
-ghost use Rattle.std.specs.Prelude.{◌≡◌};
-ghost use Rattle.loops.specs.Wrap.{add64};
+ghost use Rattle.std.specs.Prelude.{◌≡◌, ℕ};
 ghost use Rattle.engines.specs.Columns.{cell_by, raised_by, stored_as};
+ghost use Rattle.engines.specs.Marked.{over_marks};
 
 use graph::sets;
 
-fn raise_one(table: &mut [u64], start: usize, i: usize, k: u64)
-    ensures { table.new ≡ cell_by start (λ v. add64 v k) i table.old }
+// The numbers of a column at the marks of `who`, each changed by f.
+fn change<F: Fn(u64) -> u64>(table: &mut [u64], start: usize, who: u64, f: F)
+    requires { F.IsAlwaysCallable f }
+    ensures { (h : ℕ → ℕ) → ((v w : ℕ) → F.post f v w → w ≡ h v) → table.new ≡ over_marks who (cell_by start h) table.old }
 {
-    if table.len() <= start {
-        return;
+    let mut left = who;
+    while left != 0 {
+        let i = sets::lowest_mark(left);
+        let at = start.saturating_add(i);
+        if at < table.len() {
+            table[at] = f(table[at]);
+        }
+        left = sets::without_mark(left, i);
     }
-    if table.len() - start <= i {
-        return;
-    }
-    let at = start + i;
-    table[at] = std::num::wrapping_add_u64(table[at], k);
 }
 
 // The numbers of a column at the marks of `who`, higher by k.
 pub fn raise(table: &mut [u64], start: usize, who: u64, k: u64)
     ensures { table.new ≡ raised_by start who k table.old }
 {
-    let mut left = who;
-    while left != 0 {
-        let i = sets::lowest_mark(left);
-        raise_one(table, start, i, k);
-        left = sets::without_mark(left, i);
-    }
-}
-
-fn store_one(table: &mut [u64], start: usize, i: usize, x: u64)
-    ensures { table.new ≡ cell_by start (λ v. x) i table.old }
-{
-    if table.len() <= start {
-        return;
-    }
-    if table.len() - start <= i {
-        return;
-    }
-    let at = start + i;
-    table[at] = x;
+    change(table, start, who, |v| v.wrapping_add(k));
 }
 
 // The numbers of a column at the marks of `who`, each x.
 pub fn store(table: &mut [u64], start: usize, who: u64, x: u64)
     ensures { table.new ≡ stored_as start who x table.old }
 {
-    let mut left = who;
-    while left != 0 {
-        let i = sets::lowest_mark(left);
-        store_one(table, start, i, x);
-        left = sets::without_mark(left, i);
-    }
+    change(table, start, who, |_| x);
 }

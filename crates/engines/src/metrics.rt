@@ -15,22 +15,17 @@ pub struct MetricsCollector {
     pub flood_nodes_covered: u64,
 }
 
-// A ratio of two counts, where there is one.
-#[derive(Clone, Copy)]
-pub enum Ratio {
-    None,
-    Some(f64),
-}
-
-fn quotient(part: u64, whole: u64) -> Ratio
+// None where there is nothing to divide by.
+#[tactic(auto, unfolding(crate::specs::Metrics::ratio_of))]
+fn quotient(part: u64, whole: u64) -> Option<f64>
     ensures { result ≡ ratio_of part whole }
 {
     if whole == 0 {
-        return Ratio::None;
+        return None;
     }
     let p = std::num::nearest_u64_to_f64(part);
     let w = std::num::nearest_u64_to_f64(whole);
-    Ratio::Some(p / w)
+    Some(p / w)
 }
 
 impl MetricsCollector {
@@ -50,24 +45,28 @@ impl MetricsCollector {
     }
 
     // Frames tried and received, added to those counted before.
+    #[tactic(auto, unfolding(crate::specs::Metrics::with_frames))]
     pub fn count_frames(self, attempts: u64, success: u64) -> MetricsCollector
         ensures { result ≡ with_frames attempts success self }
     {
-        let mut m = self;
-        m.rx_attempts = std::num::wrapping_add_u64(self.rx_attempts, attempts);
-        m.rx_success = std::num::wrapping_add_u64(self.rx_success, success);
-        m
+        MetricsCollector {
+            rx_attempts: self.rx_attempts.wrapping_add(attempts),
+            rx_success: self.rx_success.wrapping_add(success),
+            ..self
+        }
     }
 
     // Frames received of the frames that could have been.
-    pub fn link_pdr(self) -> Ratio
+    #[tactic(auto, unfolding(crate::specs::Metrics::link_pdr_of))]
+    pub fn link_pdr(self) -> Option<f64>
         ensures { result ≡ link_pdr_of self }
     {
         quotient(self.rx_success, self.rx_attempts)
     }
 
     // Positions that held the flooded payload at the end, of all positions, over all floods.
-    pub fn flood_coverage(self) -> Ratio
+    #[tactic(auto, unfolding(crate::specs::Metrics::flood_coverage_of))]
+    pub fn flood_coverage(self) -> Option<f64>
         ensures { result ≡ flood_coverage_of self }
     {
         quotient(self.flood_nodes_covered, self.flood_nodes_total)

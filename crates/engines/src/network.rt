@@ -31,15 +31,13 @@ pub struct RoundConf {
 
 impl Network {
     // As a room is opened: slot 0, and nothing counted.
+    #[tactic(auto, unfolding(crate::specs::Network::new_network))]
     pub fn new() -> Network
         ensures { result ≡ new_network }
     {
-        let v = Node::new();
-        let nodes = [v; 64];
-        let metrics = MetricsCollector::new();
         Network {
-            nodes,
-            metrics,
+            nodes: [Node::new(); 64],
+            metrics: MetricsCollector::new(),
             slot: 0,
             next_row: 0,
             bytes_sent: 0,
@@ -48,27 +46,29 @@ impl Network {
 }
 
 // The bytes of one transmission, by the length of its payload.
+#[tactic(auto, unfolding(crate::specs::Network::on_air))]
 pub fn on_air(len: u64) -> u64
     ensures { result ≡ on_air len }
 {
-    std::num::wrapping_add_u64(len, limits::HEADER)
+    len.wrapping_add(limits::HEADER)
 }
 
 // A slot begins: every position is ticked in its state.
+#[tactic(auto, unfolding(crate::specs::Network::ticking))]
 pub fn tick(conf: RoundConf, w: Network) -> Network
     ensures { result ≡ ticking conf w }
 {
-    let nodes = w.nodes;
-    let mut v = w;
-    let ticked = node::tick_all(nodes, conf.graph.n);
-    v.nodes = ticked;
-    v
+    Network {
+        nodes: node::tick_all(w.nodes, conf.graph.n),
+        ..w
+    }
 }
 
 // ---- refusals of a round
 
 // The refusal that is known before a round runs: its full length would pass the last slot. A difference stands for
 // the sum, which could wrap.
+#[tactic(auto, unfolding(crate::specs::Network::long_refusal))]
 pub fn long_refusal(conf: RoundConf, slot: u64) -> u64
     ensures { result ≡ long_refusal conf slot }
 {
@@ -82,6 +82,7 @@ pub fn long_refusal(conf: RoundConf, slot: u64) -> u64
 }
 
 // Those that only its run tells: words ran short, or its rows do not fit.
+#[tactic(auto, unfolding(crate::specs::Network::late_of))]
 pub fn late_refusal(short: bool, due: u64, numbers: usize, used: usize) -> u64
     ensures { result ≡ late_of numbers used short due }
 {
@@ -104,10 +105,7 @@ pub fn put_due(rows: &mut [u64], at: usize, slot: u64, r: Row) -> usize
     if !rows::row_due(r.slot, slot) {
         return at;
     }
-    if rows.len() < at {
-        return at;
-    }
-    if rows.len() - at < limits::ROW {
+    if rows.len().saturating_sub(at) < limits::ROW {
         return at;
     }
     rows::put_row(&mut rows[at..], r);
@@ -123,8 +121,7 @@ pub fn write_row(rows: &mut [u64], at: usize, conf: RoundConf, w: Network) -> us
     if !rows::row_due(w.next_row, w.slot) {
         return at;
     }
-    let nodes = w.nodes;
-    let shown = node::tick_all(nodes, conf.graph.n);
+    let shown = node::tick_all(w.nodes, conf.graph.n);
     let r = rows::take_snapshot(w.next_row, shown, conf.graph.n);
     put_due(rows, at, w.slot, r)
 }

@@ -1,17 +1,20 @@
 // RULES 7.1 and 7.2. Ported from node.rs: a position's state, its counts, and one slot's tick. The payload is held
 // beside the node.
-ghost use Rattle.std.specs.Prelude.{◌≡◌, ℕ, ◌&&◌, ◌||◌, ◌==◌, nat_lt};
+ghost use Rattle.std.specs.Prelude.{◌≡◌, ℕ, ◌&&◌, ◌||◌, ◌==◌, ◌<◌, nat_lt};
+ghost use Rattle.loops.specs.Upto.{upto};
 ghost use Rattle.marks.specs.Marks.{has};
+ghost use Rattle.engines.specs.Clamp.{at_most64};
+ghost use Rattle.engines.specs.Marked.{place};
+ghost use Rattle.engines.specs.declared.node.Node.{Node};
 ghost use Rattle.engines.specs.Nodes.{no_node, reset_round, ticked, ticked_all, is_listen, is_flood, is_sleep, sets_of};
 
-use super::clamp;
 use graph::sets;
 
 #[derive(Clone, Copy)]
 pub enum NodeState {
-    Listen,
-    Flood,
-    Sleep,
+    Listen = 0,
+    Flood = 1,
+    Sleep = 2,
 }
 
 // The small fields stand together, so that a position takes 48 bytes.
@@ -44,6 +47,7 @@ impl Node {
     }
 
     // What belongs to one round starts anew; counts and progress stay.
+    #[tactic(auto, unfolding(crate::specs::Nodes::reset_round))]
     pub fn reset_round(self) -> Node
         ensures { result ≡ reset_round self }
     {
@@ -51,42 +55,42 @@ impl Node {
             state: NodeState::Listen,
             flood_remaining: 0,
             last_progress_slot: 0,
-            goal_reached: self.goal_reached,
-            progress_count: self.progress_count,
-            slots_listen: self.slots_listen,
-            slots_flood: self.slots_flood,
-            slots_sleep: self.slots_sleep,
+            ..self
         }
     }
 
     // The count of the present state, one higher.
+    #[tactic(auto, unfolding(crate::specs::Nodes::ticked))]
     pub fn tick(self) -> Node
         ensures { result ≡ ticked self }
     {
-        let s = self.state;
         let mut w = self;
-        match s {
-            NodeState::Listen => w.slots_listen = std::num::wrapping_add_u64(w.slots_listen, 1),
-            NodeState::Flood => w.slots_flood = std::num::wrapping_add_u64(w.slots_flood, 1),
-            NodeState::Sleep => w.slots_sleep = std::num::wrapping_add_u64(w.slots_sleep, 1),
+        match self.state {
+            NodeState::Listen => w.slots_listen = w.slots_listen.wrapping_add(1),
+            NodeState::Flood => w.slots_flood = w.slots_flood.wrapping_add(1),
+            NodeState::Sleep => w.slots_sleep = w.slots_sleep.wrapping_add(1),
         }
         w
     }
+}
+
+// Each of the first n positions changed by f, which is told its number.
+pub fn change_all<F: Fn(usize, Node) -> Node>(nodes: [Node; 64], n: usize, f: F) -> [Node; 64]
+    requires { (i : ℕ) (v : Node) → i < 64 → F.pre f i v }
+    ensures { (h : ℕ → Node → Node) → ((i : ℕ) (v w : Node) → F.post f i v w → w ≡ h i v) → result ≡ upto (at_most64 n) (place no_node h) nodes }
+{
+    let mut changed = nodes;
+    for (i, v) in changed[..n.min(64)].iter_mut().enumerate() {
+        *v = f(i, *v);
+    }
+    changed
 }
 
 // One slot's tick of the first n positions.
 pub fn tick_all(at: [Node; 64], n: usize) -> [Node; 64]
     ensures { result ≡ ticked_all n at }
 {
-    let count = clamp::at_most_64(n);
-    let mut a = at;
-    let mut i: usize = 0;
-    while i < count {
-        let v = a[i];
-        a[i] = v.tick();
-        i += 1;
-    }
-    a
+    change_all(at, n, |_, v| v.tick())
 }
 
 // The positions in each state, a mark each.
@@ -116,18 +120,13 @@ fn note_state(s: StateSets, state: NodeState, i: usize) -> StateSets
 pub fn state_sets(at: [Node; 64], n: usize) -> StateSets
     ensures { result ≡ sets_of n at }
 {
-    let count = clamp::at_most_64(n);
     let mut s = StateSets {
         listening: 0,
         flooding: 0,
         sleeping: 0,
     };
-    let mut i: usize = 0;
-    while i < count {
-        let v = at[i];
-        let state = v.state;
-        s = note_state(s, state, i);
-        i += 1;
+    for (i, v) in at[..n.min(64)].iter().enumerate() {
+        s = note_state(s, v.state, i);
     }
     s
 }

@@ -1,10 +1,9 @@
 // RULES 7.3 and 7.4. Rows: at every row slot five numbers on the whole network, written one behind the other into a
 // lent buffer.
-ghost use Rattle.std.specs.Prelude.{◌≡◌, ◌-◌, max, nat_lt};
+ghost use Rattle.std.specs.Prelude.{◌≡◌, ◌-◌, nat_lt};
 ghost use Rattle.limits.specs.Limits.{row_cells};
 ghost use Rattle.engines.specs.Rows.{highest_progress, row_of, is_due, next_row, due_after, put_row, rows_refused};
 
-use super::clamp;
 use super::node::Node;
 use graph::sets;
 
@@ -17,28 +16,17 @@ pub struct Row {
     pub sleeping: u64,
 }
 
-fn larger(a: u64, b: u64) -> u64
-    ensures { result ≡ max a b }
-{
-    if a < b { b } else { a }
-}
-
 // The highest progress of the first n positions.
 pub fn highest_progress(at: [Node; 64], n: usize) -> u64
     ensures { result ≡ highest_progress n at }
 {
-    let count = clamp::at_most_64(n);
-    let mut p: u64 = 0;
-    let mut i: usize = 0;
-    while i < count {
-        let v = at[i];
-        p = larger(p, v.progress_count);
-        i += 1;
-    }
-    p
+    at[..n.min(64)]
+        .iter()
+        .fold(0, |p, v| p.max(v.progress_count))
 }
 
 // The row of the first n positions, under the slot at which it was due.
+#[tactic(auto, unfolding(crate::specs::Rows::row_of))]
 pub fn take_snapshot(slot: u64, at: [Node; 64], n: usize) -> Row
     ensures { result ≡ row_of slot n at }
 {
@@ -53,6 +41,7 @@ pub fn take_snapshot(slot: u64, at: [Node; 64], n: usize) -> Row
 }
 
 // Whether a row is due, where the next is due at slot next.
+#[tactic(auto, unfolding(crate::specs::Rows::is_due))]
 pub fn row_due(next: u64, slot: u64) -> bool
     ensures { result ≡ is_due next slot }
 {
@@ -60,47 +49,44 @@ pub fn row_due(next: u64, slot: u64) -> bool
 }
 
 // The slot at which the next row is due, once this slot's row is written.
+#[tactic(auto, unfolding(crate::specs::Rows::next_row))]
 pub fn next_row(next: u64, interval: u64, slot: u64) -> u64
     ensures { result ≡ next_row next interval slot }
 {
     if row_due(next, slot) {
-        return std::num::wrapping_add_u64(next, interval);
+        return next.wrapping_add(interval);
     }
     next
 }
 
 // How many rows are due once a slot has begun, of which `due` were before it.
+#[tactic(auto, unfolding(crate::specs::Rows::due_after))]
 pub fn due_after(due: u64, next_row: u64, slot: u64) -> u64
     ensures { result ≡ due_after due next_row slot }
 {
     if row_due(next_row, slot) {
-        return std::num::wrapping_add_u64(due, 1);
+        return due.wrapping_add(1);
     }
     due
 }
 
 // A row at the start of the part that is lent; a part too short for it stays as it is.
+#[tactic(auto, unfolding(crate::specs::Rows::put_row))]
 pub fn put_row(part: &mut [u64], r: Row)
     ensures { part.new ≡ put_row part.old r }
 {
-    if part.len() < 5 {
+    if part.len() < limits::ROW {
         return;
     }
-    part[0] = r.slot;
-    part[1] = r.progress;
-    part[2] = r.listening;
-    part[3] = r.flooding;
-    part[4] = r.sleeping;
+    let cells = [r.slot, r.progress, r.listening, r.flooding, r.sleeping];
+    part[..limits::ROW].copy_from_slice(&cells);
 }
 
 // Whether no row fits behind the first `at` of so many numbers.
 pub fn is_full(numbers: usize, at: usize) -> bool
     ensures { result ≡ nat_lt (numbers - at) row_cells }
 {
-    if numbers <= at {
-        return true;
-    }
-    numbers - at < limits::ROW
+    numbers.saturating_sub(at) < limits::ROW
 }
 
 // Refusal 17: more rows are used than the buffer has, or more are due than the rest of it holds whole.
@@ -108,11 +94,5 @@ pub fn rows_refused(numbers: usize, used: usize, due: usize) -> bool
     ensures { result ≡ rows_refused numbers used due }
 {
     let whole = numbers / 5;
-    if whole < used {
-        return true;
-    }
-    if whole - used < due {
-        return true;
-    }
-    false
+    whole < used || whole - used < due
 }

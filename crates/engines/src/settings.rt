@@ -3,7 +3,8 @@ ghost use Rattle.std.specs.Prelude.{◌≡◌};
 ghost use Rattle.engines.specs.Settings.{loss_accepted, is_lossy};
 
 // A capture round reads the listen timeout, a flood the repeats. The round's slots may be left open for a flood, which
-// then reckons them from the diameter.
+// then reckons them from the diameter. C is told slots and flag again as it gave them, whichever is read: so two fields
+// stand where an Option would lose the slots beside a flag that says no.
 #[derive(Clone, Copy)]
 pub struct Settings {
     pub loss_rate: f64,
@@ -16,16 +17,15 @@ pub struct Settings {
 }
 
 // Refusal 4 is for every other loss, NaN among them.
+#[tactic(auto, unfolding(crate::specs::Settings::loss_accepted))]
 pub fn loss_accepted(loss: f64) -> bool
     ensures { result ≡ loss_accepted loss }
 {
-    if 0.0 <= loss {
-        return loss < 1.0;
-    }
-    false
+    0.0 <= loss && loss < 1.0
 }
 
 // Only a loss above 0 draws words.
+#[tactic(auto, unfolding(crate::specs::Settings::is_lossy))]
 pub fn is_lossy(loss: f64) -> bool
     ensures { result ≡ is_lossy loss }
 {

@@ -2,9 +2,9 @@
 ghost use Rattle.std.specs.Prelude.{◌≡◌, ◌+◌, ◌%◌, ◌<◌};
 ghost use Rattle.engines.specs.Words.{unit_of, next_of, coin_of, lost_of, pick_of, swap_step, shuffled};
 
-use super::clamp;
-
-// The place of the next word, and whether a word was asked for past the end. The cursor may be any number.
+// The place of the next word, and whether a word was asked for past the end. The cursor may be any number. C is told the
+// place whether or not words ran short, so the flag stands beside it and not around it. Words and cursor are passed
+// apart: rooms keep the cursor between calls, and are lent words for one call alone.
 #[derive(Clone, Copy)]
 pub struct Draw {
     pub at: usize,
@@ -19,42 +19,39 @@ pub struct Drawn {
 
 // The next word and the cursor behind it. Past the end the word is 0, the cursor stays, and says so from then on: so
 // every draw has an answer, and no loop has to be left for want of a word.
+#[tactic(auto, unfolding(crate::specs::Words::next_of))]
 pub fn next(words: &[u64], d: Draw) -> Drawn
     ensures { result ≡ next_of words.now d }
 {
-    let at = d.at;
-    if at < words.len() {
-        let next = Draw {
-            at: at + 1,
-            short: d.short,
-        };
-        Drawn {
-            word: words[at],
-            draw: next,
-        }
-    } else {
-        let next = Draw { at, short: true };
-        Drawn {
+    match words.get(d.at) {
+        Some(&word) => Drawn {
+            word,
+            draw: Draw { at: d.at + 1, ..d },
+        },
+        None => Drawn {
             word: 0,
-            draw: next,
-        }
+            draw: Draw { short: true, ..d },
+        },
     }
 }
 
 // The word's 53 high digits as a fraction of one. They are few enough for the cast and the quotient to be exact
 // (specs/Exact.antt).
+#[tactic(auto, using(crate::proofs::Units::cast_fits), unfolding(crate::specs::Words::unit_of))]
 pub fn unit(w: u64) -> f64
     ensures { result ≡ unit_of w }
 {
     (w / 2048) as f64 / 9007199254740992.0
 }
 
+#[tactic(auto, unfolding(crate::specs::Words::lost_of))]
 pub fn lost(w: u64, loss: f64) -> bool
     ensures { result ≡ lost_of w loss }
 {
     unit(w) < loss
 }
 
+#[tactic(auto, unfolding(crate::specs::Words::coin_of))]
 pub fn coin(w: u64) -> bool
     ensures { result ≡ coin_of w }
 {
@@ -62,6 +59,7 @@ pub fn coin(w: u64) -> bool
 }
 
 // A number from 0 to i. With i at its highest, i + 1 would wrap, and every word is its own remainder.
+#[tactic(auto, using(crate::proofs::Drawing::pick_top), unfolding(crate::specs::Words::pick_of))]
 pub fn pick(w: u64, i: usize) -> usize
     ensures { result ≡ pick_of w i }
 {
@@ -72,16 +70,14 @@ pub fn pick(w: u64, i: usize) -> usize
 }
 
 // One turn of the shuffle: the number at i changes places with one of those from 0 to i.
+#[tactic(auto, using(crate::proofs::Drawing::pick_le), unfolding(crate::specs::Words::swap_step))]
 fn swap_step(words: &[u64], ids: &mut [usize; 64], i: usize, d: Draw) -> Draw
     requires { i < 64 }
     ensures { record { ids = ids.exit.now; draw = result } ≡ swap_step words.now i (record { ids = ids.entry.now; draw = d }) }
 {
     let drawn = next(words, d);
     let j = pick(drawn.word, i);
-    let x = ids[i];
-    let y = ids[j];
-    ids[i] = y;
-    ids[j] = x;
+    ids.swap(i, j);
     drawn.draw
 }
 
@@ -89,15 +85,9 @@ fn swap_step(words: &[u64], ids: &mut [usize; 64], i: usize, d: Draw) -> Draw
 pub fn shuffle(words: &[u64], ids: &mut [usize; 64], count: usize, d: Draw) -> Draw
     ensures { record { ids = ids.exit.now; draw = result } ≡ shuffled words.now count (record { ids = ids.entry.now; draw = d }) }
 {
-    let last = clamp::at_most_64(count);
-    if last == 0 {
-        return d;
-    }
     let mut e = d;
-    let mut i = last - 1;
-    while 0 < i {
+    for i in (1..count.min(64)).rev() {
         e = swap_step(words, ids, i, e);
-        i -= 1;
     }
     e
 }

@@ -1,7 +1,6 @@
 -- What the proofs of the flood lean on. Assumes nothing.
-use Rattle.std.proofs.Common.{◌≡◌, ℕ, zero, suc, ◌+◌, ◌*◌, ◌/◌, ◌^◌, ◌<◌, ◌≤◌, max, Bool, true, false, List, [], length, sym, refl, ap, ◌∙◌, true≢false, mul-le-mul, arith, length-append}
+use Rattle.std.proofs.Common.{◌≡◌, ℕ, zero, suc, ◌+◌, ◌*◌, ◌/◌, ◌^◌, ◌<◌, ◌≤◌, Bool, true, false, List, [], length, sym, refl, ap, ◌∙◌, true≢false, mul-le-mul, arith, length-append}
 use Rattle.loops.specs.Pick.{either}
-use Rattle.engines.specs.Clamp.{at_most64}
 use Rattle.loops.specs.Runs.{tell}
 use Rattle.engines.specs.Network.{due_row, slot_row}
 use Rattle.engines.specs.Nodes.{ticked_all}
@@ -10,41 +9,13 @@ use Rattle.engines.specs.declared.rows.Row.{Row}
 use Rattle.engines.specs.declared.network.Network.{Network}
 use Rattle.engines.specs.Rounds.{rows_in, Surveyed}
 use Rattle.engines.specs.declared.network.RoundConf.{RoundConf}
-use Rattle.engines.specs.declared.node.Node.{Node}
-use Rattle.engines.specs.declared.node.NodeState.{NodeState}
-use Rattle.engines.specs.declared.node.NodeState.TheVariants.{Listen, Flood}
-use Rattle.flood.specs.Flood.{flood_length, after_flood, after_listen, next_in, next_node, flood_slot, is_over, flood_round, flood_rows, flooded_of}
+use Rattle.flood.specs.Flood.{flood_slot, is_over, flood_round, flood_rows, flooded_of}
 use Rattle.flood.specs.declared.flood.FloodRun.{FloodRun}
 use Rattle.flood.specs.declared.flood.Flooded.{Flooded}
 
 -- a length fits
 pub length_fits : (d k : ℕ) → d ≤ 64 → k < 2 ^ 32 → (d + 2) * k < 2 ^ 64
 length_fits d k h g = let p : (d + 2) * k ≤ 66 * 4294967296 = mul-le-mul {n₂ = 66} {m₂ = 4294967296} (omega arith) (omega arith) in omega arith
-
-module _ (slots diameter repeats d : ℕ) (e : d ≡ at_most64 diameter) where
-  pub length_short : (d + 2) * repeats < 3 → 3 ≡ flood_length false slots diameter repeats
-  unfolding flood_length
-  length_short h = rw (← e) (low ((d + 2) * repeats) h)
-    where
-      low : (x : ℕ) → x < 3 → 3 ≡ max 3 x
-      low x h = omega arith
-
-  pub length_long : 3 ≤ (d + 2) * repeats → (d + 2) * repeats ≡ flood_length false slots diameter repeats
-  unfolding flood_length
-  length_long h = rw (← e) (high ((d + 2) * repeats) h)
-    where
-      high : (x : ℕ) → 3 ≤ x → x ≡ max 3 x
-      high x h = omega arith
-
--- a position's next state, by its state
-module _ (repeats : ℕ) (heard : Bool) (v r : Node) where
-  pub next_listen : v.state ≡ Listen → r ≡ after_listen repeats heard v → r ≡ next_node repeats heard v
-  unfolding next_node
-  next_listen e g = g ∙ sym (ap (λ (s : NodeState). next_in s repeats heard v) e)
-
-  pub next_flood : v.state ≡ Flood → r ≡ after_flood v → r ≡ next_node repeats heard v
-  unfolding next_node
-  next_flood e g = g ∙ sym (ap (λ (s : NodeState). next_in s repeats heard v) e)
 
 -- what the run without rows found out is what the flood tells
 module _ (ws : List ℕ) (conf : RoundConf) (bytes : ℕ) (f : FloodRun) {t : FloodRun} {due : ℕ}

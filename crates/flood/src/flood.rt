@@ -9,9 +9,8 @@ use super::quiet;
 use engines::network::{Network, RoundConf};
 use engines::node::{Node, NodeState, StateSets};
 use engines::words::Draw;
-use engines::{clamp, network, node, rows, words};
+use engines::{network, node, rows, words};
 use graph::sets;
-use merges::votes;
 
 // Who receives in a slot, and what that draws and counts.
 #[derive(Clone, Copy)]
@@ -40,55 +39,49 @@ pub struct Flooded {
 
 // How many slots a round may take. A diameter lies below 64, and a longer one is taken for 64: so the product cannot
 // wrap.
+#[tactic(auto, using(crate::proofs::Flooding::length_fits), unfolding(crate::specs::Flood::flood_length))]
 pub fn flood_length(given: bool, slots: u64, diameter: usize, repeats: u32) -> u64
     ensures { result ≡ flood_length given slots diameter repeats }
 {
     if given {
         return slots;
     }
-    let d = clamp::at_most_64(diameter);
+    let d = diameter.min(64);
     let long = (d as u64 + 2) * (repeats as u64);
-    if long < 3 {
-        return 3;
-    }
-    long
+    long.max(3)
 }
 
 // A frame for neighbour j that arrives or is gone.
+#[tactic(auto, unfolding(crate::specs::Flood::framed))]
 fn frame(p: FloodPlan, j: usize, gone: bool, d: Draw) -> FloodPlan
     ensures { result ≡ framed j gone d p }
 {
-    let attempts = std::num::wrapping_add_u64(p.attempts, 1);
+    let attempts = p.attempts.wrapping_add(1);
     if gone {
         return FloodPlan {
-            received: p.received,
             draw: d,
             attempts,
-            success: p.success,
+            ..p
         };
     }
-    let received = sets::with_mark(p.received, j);
-    let success = std::num::wrapping_add_u64(p.success, 1);
     FloodPlan {
-        received,
+        received: sets::with_mark(p.received, j),
         draw: d,
         attempts,
-        success,
+        success: p.success.wrapping_add(1),
     }
 }
 
 // A frame for neighbour j, with its draw unless the loss is 0.
+#[tactic(auto, unfolding(crate::specs::Flood::hear_at))]
 fn hear(words: &[u64], loss: f64, j: usize, p: FloodPlan) -> FloodPlan
     ensures { result ≡ hear_at words.now loss j p }
 {
-    let d = p.draw;
     if loss == 0.0 {
-        return frame(p, j, false, d);
+        return frame(p, j, false, p.draw);
     }
-    let x = words::next(words, d);
-    let gone = words::lost(x.word, loss);
-    let e = x.draw;
-    frame(p, j, gone, e)
+    let x = words::next(words, p.draw);
+    frame(p, j, words::lost(x.word, loss), x.draw)
 }
 
 pub(crate) fn find_hearers(row: u64, listening: u64) -> u64
@@ -111,6 +104,7 @@ fn send(words: &[u64], loss: f64, hearers: u64, p: FloodPlan) -> FloodPlan
     q
 }
 
+#[tactic(auto, unfolding(crate::specs::Flood::send_at))]
 fn send_at(
     words: &[u64],
     loss: f64,
@@ -151,17 +145,13 @@ fn with_state(v: Node, state: NodeState, flood_remaining: u32) -> Node
     Node {
         state,
         flood_remaining,
-        last_progress_slot: v.last_progress_slot,
-        goal_reached: v.goal_reached,
-        progress_count: v.progress_count,
-        slots_listen: v.slots_listen,
-        slots_flood: v.slots_flood,
-        slots_sleep: v.slots_sleep,
+        ..v
     }
 }
 
 // A flooder's next state. Where none is left, which only repeats 0 leads to, it sleeps as well: the count cannot fall
 // below 0.
+#[tactic(auto, unfolding(crate::specs::Flood::after_flood))]
 fn after_flood(v: Node) -> Node
     ensures { result ≡ after_flood v }
 {
@@ -171,6 +161,7 @@ fn after_flood(v: Node) -> Node
     with_state(v, NodeState::Flood, v.flood_remaining - 1)
 }
 
+#[tactic(auto, unfolding(crate::specs::Flood::after_listen))]
 fn after_listen(v: Node, heard: bool, repeats: u32) -> Node
     ensures { result ≡ after_listen repeats heard v }
 {
@@ -180,11 +171,11 @@ fn after_listen(v: Node, heard: bool, repeats: u32) -> Node
     v
 }
 
+#[tactic(auto, unfolding(crate::specs::Flood::next_node))]
 fn turn(v: Node, heard: bool, repeats: u32) -> Node
     ensures { result ≡ next_node repeats heard v }
 {
-    let s = v.state;
-    match s {
+    match v.state {
         NodeState::Listen => after_listen(v, heard, repeats),
         NodeState::Flood => after_flood(v),
         NodeState::Sleep => v,
@@ -195,65 +186,48 @@ fn turn(v: Node, heard: bool, repeats: u32) -> Node
 fn turn_all(at: [Node; 64], n: usize, received: u64, repeats: u32) -> [Node; 64]
     ensures { result ≡ turned_all n repeats received at }
 {
-    let count = clamp::at_most_64(n);
-    let mut a = at;
-    let mut i: usize = 0;
-    while i < count {
-        let v = a[i];
-        let heard = sets::is_marked(received, i);
-        a[i] = turn(v, heard, repeats);
-        i += 1;
-    }
-    a
+    node::change_all(at, n, |i, v| {
+        turn(v, sets::is_marked(received, i), repeats)
+    })
 }
 
+#[tactic(auto, unfolding(crate::specs::Flood::nobody_floods))]
 fn nobody_floods(at: [Node; 64], n: usize) -> bool
     ensures { result ≡ nobody_floods n at }
 {
-    let s = node::state_sets(at, n);
-    s.flooding == 0
+    node::state_sets(at, n).flooding == 0
 }
 
 // What the flooders add to the bytes sent: each a header and the packet.
+#[tactic(auto, unfolding(crate::specs::Flood::sent_after))]
 fn sent_after(sent: u64, flooding: u64, bytes: u64) -> u64
     ensures { result ≡ sent_after sent flooding bytes }
 {
-    let each = votes::wrapping_mul(sets::count_marks(flooding) as u64, network::on_air(bytes));
-    std::num::wrapping_add_u64(sent, each)
+    let each = (sets::count_marks(flooding) as u64).wrapping_mul(network::on_air(bytes));
+    sent.wrapping_add(each)
 }
 
 // One slot of a round.
+#[tactic(auto, unfolding(crate::specs::Flood::flood_slot, engines::specs::Network::ticking))]
 pub(crate) fn flood_slot(words: &[u64], conf: RoundConf, bytes: u64, f: FloodRun) -> FloodRun
     ensures { result ≡ flood_slot words.now conf bytes f }
 {
     let w = network::tick(conf, f.network);
     let g = conf.graph;
-    let links = g.adj;
-    let ticked = w.nodes;
-    let s = node::state_sets(ticked, g.n);
-    let d = f.draw;
-    let p = plan_flood(words, conf.settings.loss_rate, &links, s, d);
-    let nodes = turn_all(ticked, g.n, p.received, conf.settings.flood_repeats);
-    let metrics = w.metrics.count_frames(p.attempts, p.success);
-    let draw = p.draw;
+    let s = node::state_sets(w.nodes, g.n);
+    let p = plan_flood(words, conf.settings.loss_rate, &g.adj, s, f.draw);
+    let nodes = turn_all(w.nodes, g.n, p.received, conf.settings.flood_repeats);
     FloodRun {
         network: Network {
             nodes,
-            metrics,
-            slot: std::num::wrapping_add_u64(w.slot, 1),
+            metrics: w.metrics.count_frames(p.attempts, p.success),
+            slot: w.slot.wrapping_add(1),
             next_row: rows::next_row(w.next_row, conf.interval, w.slot),
             bytes_sent: sent_after(w.bytes_sent, s.flooding, bytes),
         },
-        draw,
+        draw: p.draw,
         over: nobody_floods(nodes, g.n),
     }
-}
-
-fn ran_short(f: FloodRun) -> bool
-    ensures { result ≡ f.draw.short }
-{
-    let d = f.draw;
-    d.short
 }
 
 // Where a run without rows has come to, and the rows due by then.
@@ -275,7 +249,7 @@ fn survey(words: &[u64], conf: RoundConf, bytes: u64, f: FloodRun) -> FloodSurve
         if run.over {
             return FloodSurvey { run, due };
         }
-        if ran_short(run) {
+        if run.draw.short {
             return FloodSurvey { run, due };
         }
         due = rows::due_after(due, run.network.next_row, run.network.slot);
@@ -292,7 +266,7 @@ pub fn flood_identical_round(words: &[u64], conf: RoundConf, bytes: u64, f: Floo
 {
     let s = survey(words, conf, bytes, f);
     let run = s.run;
-    if ran_short(run) {
+    if run.draw.short {
         return Flooded {
             short: true,
             due: 0,
@@ -309,18 +283,11 @@ pub fn flood_identical_round(words: &[u64], conf: RoundConf, bytes: u64, f: Floo
 fn reset_all(at: [Node; 64], n: usize) -> [Node; 64]
     ensures { result ≡ reset_all n at }
 {
-    let count = clamp::at_most_64(n);
-    let mut a = at;
-    let mut i: usize = 0;
-    while i < count {
-        let v = a[i];
-        a[i] = v.reset_round();
-        i += 1;
-    }
-    a
+    node::change_all(at, n, |_, v| v.reset_round())
 }
 
 // Everybody listens but the initiator.
+#[tactic(auto, unfolding(crate::specs::Flood::flood_start))]
 pub fn start_flood(at: [Node; 64], n: usize, initiator: usize, repeats: u32) -> [Node; 64]
     ensures { result ≡ flood_start n initiator repeats at }
 {
@@ -328,8 +295,7 @@ pub fn start_flood(at: [Node; 64], n: usize, initiator: usize, repeats: u32) -> 
     if initiator >= 64 {
         return a;
     }
-    let v = a[initiator];
-    a[initiator] = with_state(v, NodeState::Flood, repeats);
+    a[initiator] = with_state(a[initiator], NodeState::Flood, repeats);
     a
 }
 

@@ -9,9 +9,8 @@ use super::flood;
 use super::flood::FloodRun;
 use engines::network::{Network, RoundConf};
 use engines::node::{Node, NodeState};
-use engines::{clamp, network, node, stretch};
+use engines::{network, node, stretch};
 use graph::sets;
-use merges::votes;
 
 // A round behind a step, and the slots that it still has.
 #[derive(Clone, Copy)]
@@ -25,22 +24,14 @@ pub(crate) struct FloodStep {
 fn quiet_for(v: Node, row: u64, listening: u64, most: u64) -> u64
     ensures { QuietFor row listening most v result }
 {
-    let s = v.state;
-    match s {
-        NodeState::Listen => most,
-        NodeState::Sleep => most,
+    match v.state {
+        NodeState::Listen | NodeState::Sleep => most,
         NodeState::Flood => {
-            if v.flood_remaining <= 1 {
-                return 0;
-            }
-            if flood::find_hearers(row, listening) != 0 {
+            if v.flood_remaining <= 1 || flood::find_hearers(row, listening) != 0 {
                 return 0;
             }
             let more = (v.flood_remaining - 1) as u64;
-            if more < most {
-                return more;
-            }
-            most
+            more.min(most)
         }
     }
 }
@@ -49,16 +40,12 @@ fn quiet_for(v: Node, row: u64, listening: u64, most: u64) -> u64
 fn quiet_for_all(at: [Node; 64], n: usize, links: &[u64; 64], listening: u64, most: u64) -> u64
     ensures { QuietOf links.now n listening most at result }
 {
-    let count = clamp::at_most_64(n);
     let mut k = most;
-    let mut i: usize = 0;
-    while i < count {
-        let v = at[i];
-        k = quiet_for(v, links[i], listening, k);
+    for (i, v) in at[..n.min(64)].iter().enumerate() {
+        k = quiet_for(*v, links[i], listening, k);
         if k == 0 {
             return 0;
         }
-        i += 1;
     }
     k
 }
@@ -77,41 +64,34 @@ fn quiet_slots(conf: RoundConf, f: FloodRun, left: u64) -> u64
     if w.next_row <= w.slot {
         return 0;
     }
-    let most = clamp::smaller(left, w.next_row - w.slot);
+    let most = left.min(w.next_row - w.slot);
     if most <= 1 {
         return 0;
     }
     let g = conf.graph;
-    let links = g.adj;
-    let at = w.nodes;
-    let s = node::state_sets(at, g.n);
+    let s = node::state_sets(w.nodes, g.n);
     if s.flooding == 0 {
         return 0;
     }
-    quiet_for_all(at, g.n, &links, s.listening, most)
+    quiet_for_all(w.nodes, g.n, &g.adj, s.listening, most)
 }
 
 // k such slots.
+#[tactic(auto, unfolding(crate::specs::Quiet::quietened))]
 fn pass_slots(conf: RoundConf, bytes: u64, f: FloodRun, k: u64) -> FloodRun
     ensures { result ≡ quietened conf bytes k f }
 {
     let w = f.network;
-    let at = w.nodes;
-    let s = node::state_sets(at, conf.graph.n);
-    let each = votes::wrapping_mul(sets::count_marks(s.flooding) as u64, network::on_air(bytes));
-    let nodes = stretch::pass_all(at, conf.graph.n, k);
-    let metrics = w.metrics;
-    let draw = f.draw;
+    let s = node::state_sets(w.nodes, conf.graph.n);
+    let each = (sets::count_marks(s.flooding) as u64).wrapping_mul(network::on_air(bytes));
     FloodRun {
         network: Network {
-            nodes,
-            metrics,
-            slot: std::num::wrapping_add_u64(w.slot, k),
-            next_row: w.next_row,
-            bytes_sent: std::num::wrapping_add_u64(w.bytes_sent, votes::wrapping_mul(k, each)),
+            nodes: stretch::pass_all(w.nodes, conf.graph.n, k),
+            slot: w.slot.wrapping_add(k),
+            bytes_sent: w.bytes_sent.wrapping_add(k.wrapping_mul(each)),
+            ..w
         },
-        draw,
-        over: f.over,
+        ..f
     }
 }
 

@@ -1,20 +1,16 @@
-use Rattle.std.proofs.Common.{refl, arith}
+use Rattle.std.proofs.Common.{arith, refl}
 use Rattle.loops.specs.Upto.{upto_none, upto_turn, upto_all}
 use Rattle.engines.specs.Columns.{cell}
-use Rattle.capture.specs.Boards.{payloads_by, data_in}
+use Rattle.capture.specs.Boards.{data_in, payloads_by}
 use Rattle.capture.proofs.board.pack_held.Goals as goal
 
 pub loop-i-init : goal.loop-i-init
-loop-i-init c = (c.at_most_64-count.ensures, omega arith, upto_none _ _)
+loop-i-init c = upto_none _ _
 
 pub loop-i-preserved : goal.loop-i-preserved
 unfolding data_in cell
-loop-i-preserved c = (
-  c.loop-i.invariant.0,
-  omega arith,
-  upto_turn _ _ c.loop-i.invariant.2 (rw (c.payload_by.ensures c.args.held refl)),
-)
+loop-i-preserved c = upto_turn _ _ c.loop-i.invariant (rw (c.payload_by.ensures c.args.held refl))
 
 pub returns : goal.returns
 unfolding payloads_by
-returns c = upto_all _ _ (omega arith) (omega arith) c.loop-i.invariant.2
+returns c = upto_all _ _ (omega arith) (omega arith) c.loop-i.invariant

@@ -7,4 +7,4 @@ returns c =
     let nodes : length c.args.c.network.nodes ≡ 64 = search rules in
     let held : length c.args.c.held ≡ 64 = search rules in
     λ h conf e. shown_start _ c.args.c c.args.initiator c.args.cursor (nodes) (held)
-    (c.take_all-s.ensures h) c.first_states-states.ensures conf e
+    (c.take_all-s.ensures h) c.first_states.ensures conf e

@@ -9,7 +9,7 @@ pub returns-then-k-gt0 : goal.returns-then-k-gt0
 returns-then-k-gt0 c =
     record {
       left_lt_left = omega (arith, c.idle_slots-k.ensures.upper_bound, c.if-k-gt0.true);
-      advanced = λ conf base state g o. rw (c.wrapping_add_u64.ensures.value, c.pass.ensures)
+      advanced = λ conf base state g o. rw c.pass.ensures
           (advanced_idle _ conf base state _ _ c.if-k-gt0.true c.idle_slots-k.ensures.upper_bound (c.idle_slots-k.ensures.idle conf base state _ g o c.if-k-gt0.true) o);
     }
 

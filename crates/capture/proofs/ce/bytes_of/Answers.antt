@@ -14,7 +14,7 @@ pub loop-left-smaller : goal.loop-left-smaller
 loop-left-smaller c = over_less (without _ _ _ c.loop-left.invariant.0 c.loop-left-test.true c.lowest_mark-i.ensures c.without_mark-left.ensures)
 
 pub loop-left-preserved : goal.loop-left-preserved
-loop-left-preserved c = let w = without _ _ _ c.loop-left.invariant.0 c.loop-left-test.true c.lowest_mark-i.ensures c.without_mark-left.ensures in (omega arith, over_turn _ w (rw (c.wrapping_add_u64-sum.ensures.value, c.on_air.ensures, c.text_len.ensures)) c.loop-left.invariant.1)
+loop-left-preserved c = let w = without _ _ _ c.loop-left.invariant.0 c.loop-left-test.true c.lowest_mark-i.ensures c.without_mark-left.ensures in (omega arith, over_turn _ w (rw (c.on_air-sum.ensures, c.text_len.ensures)) c.loop-left.invariant.1)
 
 pub returns : goal.returns
 unfolding sent_by

@@ -18,12 +18,12 @@ pub returns : goal.returns
 returns c =
     let small : SmallBoard c.args.b = record { sent = search rules; timeouts = search rules; attempts = search rules; success = search rules } in
     (record {
-      upper_bound = omega (arith, c.shortest_wait.ensures.0, c.smaller-most.ensures);
+      upper_bound = omega (arith, c.shortest_wait.ensures.0);
       idle = λ conf base state links g o p. rests_idle conf base state links _ _ _ _ g o
           (record {
             small = small;
             going = c.requires;
-            rows = omega (arith, c.shortest_wait.ensures.0, c.smaller-most.ensures, c.if-b.false);
+            rows = omega (arith, c.shortest_wait.ensures.0);
             goal = sym c.goal_reached.ensures ∙ c.if-goal_reached.false;
             silent = c.if-b-ne0.false;
             awake = c.if-b-ne0-2.false;

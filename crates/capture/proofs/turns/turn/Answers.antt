@@ -11,10 +11,10 @@ returns c =
       goal = c.goals.ensures;
       phases = refl;
       rests = refl;
-      metrics = c.count_slot-metrics.ensures;
-      slot = c.wrapping_add_u64.ensures.value;
+      metrics = c.count_slot.ensures;
+      slot = refl;
       row = c.next_row.ensures;
-      bytes = c.wrapping_add_u64-2.ensures.value;
+      bytes = refl;
       draw = refl;
       going = refl;
     }

@@ -1,22 +1,7 @@
-use Rattle.std.proofs.Common.{refl, ◌∙◌, arith}
+use Rattle.std.proofs.Common.{rules}
 use Rattle.engines.specs.Columns.{stored_as}
-use Rattle.engines.proofs.Marking.{without, over_less, over_turn, over_none}
 use Rattle.engines.proofs.columns.store.Goals as goal
-
-pub loop-left-init : goal.loop-left-init
-loop-left-init c = (omega arith, refl, refl)
-
-pub loop-left-smaller : goal.loop-left-smaller
-loop-left-smaller c = over_less (without _ _ _ c.loop-left.invariant.0 c.loop-left-test.true c.lowest_mark-i.ensures c.without_mark-left.ensures)
-
-pub loop-left-preserved : goal.loop-left-preserved
-loop-left-preserved c =
-    let w = without _ _ _ c.loop-left.invariant.0 c.loop-left-test.true c.lowest_mark-i.ensures c.without_mark-left.ensures in
-    (omega arith, over_turn _ w c.store_one.ensures c.loop-left.invariant.1, c.store_one.auto.table ∙ c.loop-left.invariant.2)
-
-pub shape_of-table : goal.shape_of-table
-shape_of-table c = c.loop-left.invariant.2
 
 pub returns : goal.returns
 unfolding stored_as
-returns c = over_none _ c.loop-left-test.false c.loop-left.invariant.1
+returns c = c.change.ensures (λ v. c.args.x) (λ v w k. search rules)

@@ -5,16 +5,13 @@ use Rattle.engines.proofs.network.put_due.Goals as goal
 pub returns-then-not-row_due : goal.returns-then-not-row_due
 returns-then-not-row_due c = record { value = (row_none c.args.slot c.args.r c.args.rows.now c.args.at (sym c.row_due.ensures ∙ c.if-not-row_due.true)).0; rows_after = (row_none c.args.slot c.args.r c.args.rows.now c.args.at (sym c.row_due.ensures ∙ c.if-not-row_due.true)).1 }
 
-pub returns-then-rows-at : goal.returns-then-rows-at
-returns-then-rows-at c = record { value = (row_full c.args.slot c.args.r c.args.rows.now c.args.at (sym c.row_due.ensures ∙ c.if-not-row_due.false) (omega (arith, c.if-rows-at.true))).0; rows_after = (row_full c.args.slot c.args.r c.args.rows.now c.args.at (sym c.row_due.ensures ∙ c.if-not-row_due.false) (omega (arith, c.if-rows-at.true))).1 }
-
-pub returns-then-rows-at-lt-ROW : goal.returns-then-rows-at-lt-ROW
-returns-then-rows-at-lt-ROW c =
+pub returns-then-saturating_sub-lt-ROW : goal.returns-then-saturating_sub-lt-ROW
+returns-then-saturating_sub-lt-ROW c =
     record {
       value = (row_full c.args.slot c.args.r c.args.rows.now c.args.at (sym c.row_due.ensures ∙ c.if-not-row_due.false)
-          (omega (arith, c.if-rows-at-lt-ROW.true, c.if-rows-at.false))).0;
+          (omega arith)).0;
       rows_after = (row_full c.args.slot c.args.r c.args.rows.now c.args.at (sym c.row_due.ensures ∙ c.if-not-row_due.false)
-          (omega (arith, c.if-rows-at-lt-ROW.true, c.if-rows-at.false))).1;
+          (omega arith)).1;
     }
 
 pub returns : goal.returns
@@ -22,7 +19,7 @@ returns c =
     rw c.put_row.ensures
     (record {
       value = (row_part c.args.slot c.args.r c.args.rows.now c.args.at (sym c.row_due.ensures ∙ c.if-not-row_due.false)
-          (omega (arith, c.if-rows-at-lt-ROW.false, c.if-rows-at.false))).0;
+          (omega arith)).0;
       rows_after = (row_part c.args.slot c.args.r c.args.rows.now c.args.at (sym c.row_due.ensures ∙ c.if-not-row_due.false)
-          (omega (arith, c.if-rows-at-lt-ROW.false, c.if-rows-at.false))).1;
+          (omega arith)).1;
     })

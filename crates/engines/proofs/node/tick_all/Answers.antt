@@ -1,15 +1,7 @@
 use Rattle.std.proofs.Common.{rules}
-use Rattle.loops.specs.Upto.{upto_none, upto_turn, upto_all}
-use Rattle.engines.specs.Nodes.{tick_at, ticked_all}
+use Rattle.engines.specs.Nodes.{ticked, tick_at, ticked_all}
 use Rattle.engines.proofs.node.tick_all.Goals as goal
 
-pub loop-i-init : goal.loop-i-init
-loop-i-init c = (search rules, upto_none _ _)
-
-pub loop-i-preserved : goal.loop-i-preserved
-unfolding tick_at
-loop-i-preserved c = (search rules, upto_turn _ _ c.loop-i.invariant.1 (rw c.tick.ensures))
-
 pub returns : goal.returns
-unfolding ticked_all
-returns c = rw (← c.at_most_64-count.ensures) (upto_all _ _ c.loop-i.invariant.0 c.loop-i-test.false c.loop-i.invariant.1)
+unfolding ticked_all tick_at
+returns c = c.change_all.ensures (λ i. ticked) (λ i v w k. search rules)

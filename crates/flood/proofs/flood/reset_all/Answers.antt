@@ -1,15 +1,8 @@
 use Rattle.std.proofs.Common.{rules}
-use Rattle.loops.specs.Upto.{upto_none, upto_turn, upto_all}
+use Rattle.engines.specs.Nodes.{reset_round}
 use Rattle.flood.specs.Flood.{reset_at, reset_all}
 use Rattle.flood.proofs.flood.reset_all.Goals as goal
 
-pub loop-i-init : goal.loop-i-init
-loop-i-init c = (search rules, upto_none _ _)
-
-pub loop-i-preserved : goal.loop-i-preserved
-unfolding reset_at
-loop-i-preserved c = (search rules, upto_turn _ _ c.loop-i.invariant.1 (rw c.reset_round.ensures))
-
 pub returns : goal.returns
-unfolding reset_all
-returns c = rw (← c.at_most_64-count.ensures) (upto_all _ _ c.loop-i.invariant.0 c.loop-i-test.false c.loop-i.invariant.1)
+unfolding reset_all reset_at
+returns c = c.change_all.ensures (λ i. reset_round) (λ i v w k. search rules)

@@ -1,4 +1,4 @@
-use Rattle.std.proofs.Common.{◌^◌, ◌<◌, sym, refl, ◌∙◌, arith, rules}
+use Rattle.std.proofs.Common.{◌^◌, ◌<◌, refl, arith, rules}
 use Rattle.engines.proofs.Rounds.{counted_turn, counted_stop, counted_none, counted_short}
 use Rattle.flood.specs.Flood.{is_over}
 use Rattle.flood.specs.declared.flood.FloodRun.{FloodRun}
@@ -11,8 +11,8 @@ loop-left-init c = record { run = refl; rows = omega arith; small = omega arith 
 pub returns-then-run : goal.returns-then-run
 returns-then-run c = counted_stop (λ (r : FloodRun). r.network) is_over _ _ _ _ _ c.loop-left.invariant c.loop-left-test.true c.if-run.true
 
-pub returns-then-ran_short : goal.returns-then-ran_short
-returns-then-ran_short c = counted_short (λ (r : FloodRun). r.network) is_over _ _ _ _ _ c.loop-left.invariant (flood_short _ _ _) (sym c.ran_short.ensures ∙ c.if-ran_short.true)
+pub returns-then-run-2 : goal.returns-then-run-2
+returns-then-run-2 c = counted_short (λ (r : FloodRun). r.network) is_over _ _ _ _ _ c.loop-left.invariant (flood_short _ _ _) c.if-run-2.true
 
 pub advance-step-requires : goal.advance-step-requires
 advance-step-requires c = (c.loop-left-test.true, c.if-run.false)

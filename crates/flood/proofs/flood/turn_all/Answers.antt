@@ -1,15 +1,8 @@
 use Rattle.std.proofs.Common.{rules}
-use Rattle.loops.specs.Upto.{upto_none, upto_turn, upto_all}
-use Rattle.flood.specs.Flood.{turn_at, turned_all}
+use Rattle.marks.specs.Marks.{has}
+use Rattle.flood.specs.Flood.{next_node, turn_at, turned_all}
 use Rattle.flood.proofs.flood.turn_all.Goals as goal
 
-pub loop-i-init : goal.loop-i-init
-loop-i-init c = (search rules, upto_none _ _)
-
-pub loop-i-preserved : goal.loop-i-preserved
-unfolding turn_at
-loop-i-preserved c = (search rules, upto_turn _ _ c.loop-i.invariant.1 (rw (← c.is_marked-heard.ensures, c.turn.ensures)))
-
 pub returns : goal.returns
-unfolding turned_all
-returns c = rw (← c.at_most_64-count.ensures) (upto_all _ _ c.loop-i.invariant.0 c.loop-i-test.false c.loop-i.invariant.1)
+unfolding turned_all turn_at
+returns c = c.change_all.ensures (λ i. next_node c.args.repeats (has c.args.received i)) (λ i v w k. search rules)

@@ -25,12 +25,12 @@ returns c =
       success = search rules;
     } in
     record {
-      within = omega (arith, c.quiet_for_all.ensures.within, c.smaller-most.ensures);
+      within = omega (arith, c.quiet_for_all.ensures.within);
       quiet = λ h.
           record {
             small = small;
             going = c.requires;
-            rows = omega (arith, c.quiet_for_all.ensures.within, c.smaller-most.ensures, c.if-w.false);
+            rows = omega (arith, c.quiet_for_all.ensures.within);
             some = some_flood _ _ c.state_sets-s.ensures c.if-s-eq0.false;
             alone = λ i l. rw c.state_sets-s.ensures at (c.quiet_for_all.ensures.alone h i l);
           };
