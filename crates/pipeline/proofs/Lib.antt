@@ -13,3 +13,5 @@ pub mod Valid
 pub mod Covering
 pub mod Traps
 pub mod Sent
+pub mod Finding
+pub mod Counting

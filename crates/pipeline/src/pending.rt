@@ -166,43 +166,26 @@ pub fn own_vote(s: NodeTwoPcState, i: usize, top: usize) -> NodeTwoPcState
     merge_votes_up_to(s, top, with(0, i))
 }
 
-fn gap_at(known: u64, t: usize, g: usize) -> usize
-    ensures { result ≡ gap_at known t g }
-{
-    if g != 64 {
-        return g;
-    }
-    if sets::is_marked(known, t) {
-        return g;
-    }
-    t
-}
-
-// The lowest transaction below this one that is neither logged nor pending; 64 where there is none.
-pub fn detect_gap(s: NodeTwoPcState, current: usize) -> usize
+#[tactic(auto, using(loops::specs::Upto::upto_none, crate::proofs::Finding::gap_more, crate::proofs::Finding::gap_found, crate::proofs::Finding::gap_none))]
+// The lowest transaction below this one that is neither logged nor pending.
+pub fn detect_gap(s: NodeTwoPcState, current: usize) -> Option<usize>
     ensures { result ≡ gap_of current s }
 {
-    let log = s.log;
-    let known = join(logs::logged(log), s.pending);
-    let count = clamp::at_most_64(current);
-    let mut g: usize = 64;
-    let mut t: usize = 0;
-    while t < count {
-        g = gap_at(known, t, g);
-        t += 1;
+    let known = join(logs::logged(s.log), s.pending);
+    for t in 0..clamp::at_most_64(current) {
+        if !sets::is_marked(known, t) {
+            return Some(t);
+        }
     }
-    g
+    None
 }
 
+#[tactic(auto, unfolding(crate::specs::Pending::nack_of))]
 // What a packet asks for: nothing where there is no gap, and nothing where the gap is transaction 0.
 pub fn nack(s: NodeTwoPcState, current: usize) -> usize
     ensures { result ≡ nack_of current s }
 {
-    let g = detect_gap(s, current);
-    if g == 64 {
-        return 0;
-    }
-    g
+    detect_gap(s, current).unwrap_or(0)
 }
 
 // The own vote on a new transaction. One word is drawn even if no unit lies below the probability.
@@ -225,15 +208,13 @@ pub fn vote(words: &[u64], p: f64, i: usize, bits: u64, abort: bool, d: Draw) ->
     }
 }
 
+#[tactic(auto, unfolding(crate::specs::Pending::is_judged))]
 // n rounds have passed since the start. Written so that no sum can wrap.
 pub fn is_judged(n: usize, r: u64, start: u64) -> bool
     ensures { result ≡ is_judged n r start }
 {
     let rounds = n as u64;
-    if r < rounds {
-        return false;
-    }
-    if start <= r - rounds { true } else { false }
+    rounds <= r && start <= r - rounds
 }
 
 fn mark_if(m: u64, t: usize, yes: bool) -> u64
@@ -245,15 +226,14 @@ fn mark_if(m: u64, t: usize, yes: bool) -> u64
     m
 }
 
+#[tactic(auto, using(marks::specs::Sets::grown_none, marks::specs::Sets::grown_turn))]
 // The transactions for which n rounds have passed, pending or not.
 fn ripe(n: usize, r: u64, rounds: &[u64; 64]) -> u64
     ensures { result ≡ ripe_of n r rounds.now }
 {
     let mut m: u64 = 0;
-    let mut t: usize = 0;
-    while t < 64 {
+    for t in 0..64 {
         m = mark_if(m, t, is_judged(n, r, rounds[t]));
-        t += 1;
     }
     m
 }

@@ -7,14 +7,11 @@ ghost use Rattle.loops.specs.Pick.{either};
 ghost use Rattle.limits.specs.Limits.{row_cells};
 ghost use Rattle.engines.specs.Nodes.{inc};
 ghost use Rattle.engines.specs.Rounds.{placed};
-ghost use Rattle.pipeline.specs.Pipeline.{same_packet};
 ghost use Rattle.pipeline.specs.Round.{new_part, deliver_all, covered_of, preparing, bytes_of, flood_from, counted_in, processing, close_round, RoundSurveyed, rows_of_round, early_refusal, round_answer, round_buffer, refused_with};
 
 use super::prepare::Prepared;
 use super::process::{AllProcessed, Carried, RoundFacts};
-use super::two_pc_pipeline::{
-    LogEntry, NodeTwoPcState, Piggyback, Records, RoundPacket, TxLog, Txs,
-};
+use super::two_pc_pipeline::{LogEntry, NodeTwoPcState, Outcome, Records, RoundPacket, TxLog, Txs};
 use super::{packet, pending, prepare, process};
 use engines::metrics::MetricsCollector;
 use engines::network::{Network, RoundConf};
@@ -42,7 +39,7 @@ pub struct PipelinePart {
     pub stop: bool,
     pub states: [NodeTwoPcState; 64],
     pub txs: Txs,
-    pub piggyback: Piggyback,
+    pub piggyback: Option<Outcome>,
     pub records: Records,
     pub payloads: [RoundPacket; 64],
     pub holding: u64,
@@ -98,7 +95,7 @@ impl PipelinePart {
             nack: 0,
             fresh: false,
             sender: 0,
-            piggyback: Piggyback::Absent,
+            piggyback: None,
         };
         let states = [s; 64];
         let payloads = [q; 64];
@@ -111,7 +108,7 @@ impl PipelinePart {
                 starts: zeros,
                 rounds: zeros,
             },
-            piggyback: Piggyback::Absent,
+            piggyback: None,
             records: Records { log, ends: zeros },
             payloads,
             holding: 0,
@@ -133,38 +130,18 @@ fn deliver_all(payloads: [RoundPacket; 64], q: RoundPacket, parts: u64) -> [Roun
     ps
 }
 
-fn is_covered(q: RoundPacket, held: RoundPacket, holds: bool) -> bool
-    ensures { result ≡ (holds && same_packet held q) }
-{
-    if !holds {
-        return false;
-    }
-    packet::same_packet(held, q)
-}
-
-fn one_more(k: u64, yes: bool) -> u64
-    ensures { result ≡ either yes (inc k) k }
-{
-    if yes {
-        return std::num::wrapping_add_u64(k, 1);
-    }
-    k
-}
-
+#[tactic(auto, using(loops::specs::Upto::upto_none, loops::specs::Upto::upto_all), unfolding(crate::specs::Round::covered_of))]
 // How many of the first n hold this packet.
 fn count_covered(q: RoundPacket, n: usize, holding: u64, payloads: [RoundPacket; 64]) -> u64
     ensures { result ≡ covered_of q n holding payloads }
 {
-    let count = clamp::at_most_64(n);
-    let mut k: u64 = 0;
-    let mut i: usize = 0;
-    while i < count {
-        let held = payloads[i];
-        let holds = sets::is_marked(holding, i);
-        k = one_more(k, is_covered(q, held, holds));
-        i += 1;
+    let mut covered: u64 = 0;
+    for i in 0..clamp::at_most_64(n) {
+        if sets::is_marked(holding, i) && payloads[i] == q {
+            covered = covered.wrapping_add(1);
+        }
     }
-    k
+    covered
 }
 
 fn initiator(round: u64, n: usize) -> usize
@@ -291,7 +268,7 @@ fn process_at(
     let l = Carried {
         draw,
         records,
-        piggyback: Piggyback::Absent,
+        piggyback: None,
         answers: 0,
     };
     let txs = prep.txs;

@@ -7,7 +7,7 @@ ghost use Rattle.pipeline.specs.Pending.{vote_of};
 ghost use Rattle.pipeline.specs.Pipeline.{record_tx, old_tx, new_tx, begin_tx, record_due, record_judged, abort_of, known_votes, round_packet, prepare_round};
 
 use super::process::RoundFacts;
-use super::two_pc_pipeline::{NodeTwoPcState, Piggyback, Records, RoundPacket, Txs};
+use super::two_pc_pipeline::{NodeTwoPcState, Outcome, Records, RoundPacket, Txs};
 use super::{logs, pending};
 use engines::words::Draw;
 use graph::sets;
@@ -193,7 +193,7 @@ fn make_packet(
     t: usize,
     fresh: bool,
     nack: usize,
-    piggyback: Piggyback,
+    piggyback: Option<Outcome>,
     s: NodeTwoPcState,
 ) -> RoundPacket
     ensures { result ≡ round_packet i t fresh nack piggyback s }
@@ -221,7 +221,7 @@ pub fn prepare_round(
     num_txs: usize,
     txs: Txs,
     records: Records,
-    piggyback: Piggyback,
+    piggyback: Option<Outcome>,
     s: NodeTwoPcState,
     d: Draw,
 ) -> Prepared

@@ -1,8 +1,8 @@
 // RULES 10.5. process_round of sim/two_pc_pipeline.rs: what the positions that took part do with the flooded packet.
-ghost use Rattle.std.specs.Prelude.{◌≡◌, min, ◌&&◌, nat_le};
+ghost use Rattle.std.specs.Prelude.{◌≡◌};
 ghost use Rattle.pipeline.specs.Pipeline.{is_new, hear_new, merge_round, record_aborts, take_up, is_answer, answer_nack, process_one, parts_of, process_all, shortest_log, progressed, progress_all, stops_at};
 
-use super::two_pc_pipeline::{NodeTwoPcState, Piggyback, Records, RoundPacket};
+use super::two_pc_pipeline::{NodeTwoPcState, Outcome, Records, RoundPacket};
 use super::{logs, pending, prepare};
 use engines::clamp;
 use engines::node::Node;
@@ -29,7 +29,7 @@ pub struct Learnt {
 pub struct Carried {
     pub draw: Draw,
     pub records: Records,
-    pub piggyback: Piggyback,
+    pub piggyback: Option<Outcome>,
     pub answers: u64,
 }
 
@@ -45,21 +45,12 @@ pub struct AllProcessed {
     pub carried: Carried,
 }
 
+#[tactic(auto, unfolding(crate::specs::Pipeline::is_new))]
 // The packet brings a transaction that is neither pending nor logged here.
 fn is_new(q: RoundPacket, s: NodeTwoPcState) -> bool
     ensures { result ≡ is_new q s }
 {
-    if !q.fresh {
-        return false;
-    }
-    if sets::is_marked(s.pending, q.tx) {
-        return false;
-    }
-    let g = s.log;
-    if sets::is_marked(logs::logged(g), q.tx) {
-        return false;
-    }
-    true
+    q.fresh && !sets::is_marked(s.pending, q.tx) && !sets::is_marked(logs::logged(s.log), q.tx)
 }
 
 fn hear_new(words: &[u64], p: f64, i: usize, q: RoundPacket, s: NodeTwoPcState, d: Draw) -> Learnt
@@ -98,12 +89,13 @@ fn record_aborts(slot: u64, fast: u64, b: Records) -> Records
     c
 }
 
-fn take_up(p: Piggyback, s: NodeTwoPcState) -> NodeTwoPcState
+#[tactic(auto, unfolding(crate::specs::Pipeline::take_up))]
+fn take_up(p: Option<Outcome>, s: NodeTwoPcState) -> NodeTwoPcState
     ensures { result ≡ take_up p s }
 {
     match p {
-        Piggyback::Absent => s,
-        Piggyback::Present(t, committed) => pending::finalize_tx(s, t, committed),
+        Some(o) => pending::finalize_tx(s, o.tx, o.committed),
+        None => s,
     }
 }
 
@@ -131,7 +123,10 @@ fn answer_nack(nack: usize, s: NodeTwoPcState, l: Carried) -> Carried
     Carried {
         draw: d,
         records: b,
-        piggyback: Piggyback::Present(nack, committed),
+        piggyback: Some(Outcome {
+            tx: nack,
+            committed,
+        }),
         answers: std::num::wrapping_add_u64(l.answers, 1),
     }
 }
@@ -212,26 +207,16 @@ pub fn parts(n: usize, initiator: usize, sleeping: u64) -> u64
     sets::intersection(all, sets::first_marks(n))
 }
 
-fn smaller(a: usize, b: usize) -> usize
-    ensures { result ≡ min a b }
-{
-    if a < b { a } else { b }
-}
-
+#[tactic(auto, using(loops::specs::Upto::upto_none, loops::specs::Upto::upto_turn, loops::specs::Upto::upto_all), unfolding(crate::specs::Pipeline::shorter_at, crate::specs::Pipeline::shortest_log))]
 // The length of the shortest log of the first n.
 pub fn shortest_log(states: [NodeTwoPcState; 64], n: usize) -> usize
     ensures { result ≡ shortest_log n states }
 {
-    let count = clamp::at_most_64(n);
-    let mut m: usize = 64;
-    let mut i: usize = 0;
-    while i < count {
-        let s = states[i];
-        let g = s.log;
-        m = smaller(m, g.len);
-        i += 1;
+    let mut shortest: usize = 64;
+    for i in 0..clamp::at_most_64(n) {
+        shortest = shortest.min(states[i].log.len);
     }
-    m
+    shortest
 }
 
 fn progress(v: Node, done: u64, goal: bool) -> Node
@@ -243,12 +228,7 @@ fn progress(v: Node, done: u64, goal: bool) -> Node
     w
 }
 
-fn has_all(num_txs: usize, len: usize) -> bool
-    ensures { result ≡ nat_le num_txs len }
-{
-    num_txs <= len
-}
-
+#[tactic(auto, using(loops::specs::Upto::upto_none, loops::specs::Upto::upto_turn, loops::specs::Upto::upto_all), unfolding(crate::specs::Pipeline::progress_at, crate::specs::Pipeline::progress_all))]
 // Everybody's progress, and whether its own log is complete.
 pub fn progress_all(
     at: [Node; 64],
@@ -259,42 +239,19 @@ pub fn progress_all(
 ) -> [Node; 64]
     ensures { result ≡ progress_all n num_txs done states at }
 {
-    let count = clamp::at_most_64(n);
     let mut a = at;
-    let mut i: usize = 0;
-    while i < count {
-        let s = states[i];
-        let g = s.log;
-        let goal = has_all(num_txs, g.len);
-        let v = a[i];
-        a[i] = progress(v, done as u64, goal);
-        i += 1;
+    for i in 0..clamp::at_most_64(n) {
+        let goal = num_txs <= states[i].log.len;
+        a[i] = progress(a[i], done as u64, goal);
     }
     a
 }
 
-fn all_done(num_txs: usize, done: usize, counter: usize) -> bool
-    ensures { result ≡ (nat_le num_txs done && nat_le num_txs counter) }
-{
-    if num_txs > done {
-        return false;
-    }
-    num_txs <= counter
-}
-
+#[tactic(auto, unfolding(crate::specs::Pipeline::stops_at))]
 // All have all, and all were generated; or it has idled too long. Written so that no sum can wrap.
 pub fn stops(num_txs: usize, done: usize, counter: usize, round: u64) -> bool
     ensures { result ≡ stops_at num_txs done counter round }
 {
-    if all_done(num_txs, done, counter) {
-        return true;
-    }
-    if round < 1000 {
-        return false;
-    }
-    if (num_txs as u64) < round - 1000 {
-        true
-    } else {
-        false
-    }
+    let all_done = num_txs <= done && num_txs <= counter;
+    all_done || (1000 <= round && (num_txs as u64) < round - 1000)
 }
