@@ -8,6 +8,7 @@ use engines::clamp;
 use graph::sets;
 
 // The transactions of a log, a mark each.
+// One entry more. A full log stays as it is, and so does one that is to have a number of 64 or more.
 #[tactic(auto, using(loops::specs::Upto::upto_none, loops::specs::Upto::upto_turn, loops::specs::Upto::upto_all, engines::proofs::Marking::with_is), unfolding(crate::specs::Pending::logged_of))]
 pub fn logged(g: TxLog) -> u64
     ensures { result ≡ logged_of g }
@@ -33,7 +34,6 @@ pub fn outcome(g: TxLog, t: usize) -> bool
 }
 
 #[tactic(auto, unfolding(crate::specs::Pending::pushed))]
-// One entry more. A full log stays as it is, and so does one that is to have a number of 64 or more.
 pub fn push(g: TxLog, t: usize, committed: bool) -> TxLog
     ensures { result ≡ pushed t committed g }
 {

@@ -37,6 +37,7 @@ pub fn common(a: u64, b: u64) -> u64
 }
 
 // A transaction leaves what is pending for the log, unless the log has it.
+#[tactic(auto, unfolding(crate::specs::Pending::finalize_tx))]
 pub fn finalize_tx(s: NodeTwoPcState, t: usize, committed: bool) -> NodeTwoPcState
     ensures { result ≡ finalize_tx t committed s }
 {
@@ -54,6 +55,7 @@ pub fn finalize_tx(s: NodeTwoPcState, t: usize, committed: bool) -> NodeTwoPcSta
 }
 
 // Everybody has voted yes, and nobody no. A number of 64 or more is never pending.
+#[tactic(auto, unfolding(crate::specs::Pending::unanimous_of))]
 pub fn check_unanimity(n: usize, s: NodeTwoPcState, t: usize) -> bool
     ensures { result ≡ unanimous_of n s t }
 {
@@ -80,6 +82,7 @@ fn mark_or_not(m: u64, i: usize, yes: bool) -> u64
 }
 
 // A transaction becomes pending. A number of 64 or more is none.
+#[tactic(auto, unfolding(crate::specs::Pending::open_tx))]
 pub fn open_tx(s: NodeTwoPcState, t: usize, bits: u64, abort: bool) -> NodeTwoPcState
     ensures { result ≡ open_tx t bits abort s }
 {
@@ -97,6 +100,7 @@ pub fn open_tx(s: NodeTwoPcState, t: usize, bits: u64, abort: bool) -> NodeTwoPc
     }
 }
 
+#[tactic(auto, unfolding(crate::specs::Pending::votes_at))]
 fn join_at(votes: &mut [u64; 64], t: usize, top: usize, bits: u64)
     requires { t < 64 }
     ensures { votes.new ≡ votes_at top bits t votes.old }
@@ -119,6 +123,7 @@ fn join_up_to(votes: &mut [u64; 64], pending: u64, top: usize, bits: u64)
 }
 
 // Yes votes go to all that is pending up to the packet's transaction.
+#[tactic(auto, unfolding(crate::specs::Pending::merge_votes))]
 pub fn merge_votes_up_to(s: NodeTwoPcState, top: usize, bits: u64) -> NodeTwoPcState
     ensures { result ≡ merge_votes top bits s }
 {
@@ -134,6 +139,7 @@ pub fn merge_votes_up_to(s: NodeTwoPcState, top: usize, bits: u64) -> NodeTwoPcS
 }
 
 // An abort goes to the packet's transaction only.
+#[tactic(auto, unfolding(crate::specs::Pending::merge_abort))]
 pub fn merge_abort(s: NodeTwoPcState, t: usize, abort: bool) -> NodeTwoPcState
     ensures { result ≡ merge_abort t abort s }
 {
@@ -154,6 +160,7 @@ pub fn merge_abort(s: NodeTwoPcState, t: usize, abort: bool) -> NodeTwoPcState
 }
 
 // The own yes, unless the transaction is not pending or has an abort.
+#[tactic(auto, unfolding(crate::specs::Pending::own_vote))]
 pub fn own_vote(s: NodeTwoPcState, i: usize, top: usize) -> NodeTwoPcState
     ensures { result ≡ own_vote i top s }
 {
@@ -166,8 +173,8 @@ pub fn own_vote(s: NodeTwoPcState, i: usize, top: usize) -> NodeTwoPcState
     merge_votes_up_to(s, top, with(0, i))
 }
 
-#[tactic(auto, using(loops::specs::Upto::upto_none, crate::proofs::Finding::gap_more, crate::proofs::Finding::gap_found, crate::proofs::Finding::gap_none))]
 // The lowest transaction below this one that is neither logged nor pending.
+#[tactic(auto, using(loops::specs::Upto::upto_none, crate::proofs::Finding::gap_more, crate::proofs::Finding::gap_found, crate::proofs::Finding::gap_none))]
 pub fn detect_gap(s: NodeTwoPcState, current: usize) -> Option<usize>
     ensures { result ≡ gap_of current s }
 {
@@ -180,8 +187,8 @@ pub fn detect_gap(s: NodeTwoPcState, current: usize) -> Option<usize>
     None
 }
 
-#[tactic(auto, unfolding(crate::specs::Pending::nack_of))]
 // What a packet asks for: nothing where there is no gap, and nothing where the gap is transaction 0.
+#[tactic(auto, unfolding(crate::specs::Pending::nack_of))]
 pub fn nack(s: NodeTwoPcState, current: usize) -> usize
     ensures { result ≡ nack_of current s }
 {
@@ -189,6 +196,7 @@ pub fn nack(s: NodeTwoPcState, current: usize) -> usize
 }
 
 // The own vote on a new transaction. One word is drawn even if no unit lies below the probability.
+#[tactic(auto, unfolding(crate::specs::Pending::vote_of))]
 pub fn vote(words: &[u64], p: f64, i: usize, bits: u64, abort: bool, d: Draw) -> Vote
     ensures { result ≡ vote_of words.now p i bits abort d }
 {
@@ -208,8 +216,8 @@ pub fn vote(words: &[u64], p: f64, i: usize, bits: u64, abort: bool, d: Draw) ->
     }
 }
 
-#[tactic(auto, unfolding(crate::specs::Pending::is_judged))]
 // n rounds have passed since the start. Written so that no sum can wrap.
+#[tactic(auto, unfolding(crate::specs::Pending::is_judged))]
 pub fn is_judged(n: usize, r: u64, start: u64) -> bool
     ensures { result ≡ is_judged n r start }
 {
@@ -226,8 +234,8 @@ fn mark_if(m: u64, t: usize, yes: bool) -> u64
     m
 }
 
-#[tactic(auto, using(marks::specs::Sets::grown_none, marks::specs::Sets::grown_turn))]
 // The transactions for which n rounds have passed, pending or not.
+#[tactic(auto, using(marks::specs::Sets::grown_none, marks::specs::Sets::grown_turn))]
 fn ripe(n: usize, r: u64, rounds: &[u64; 64]) -> u64
     ensures { result ≡ ripe_of n r rounds.now }
 {
@@ -238,6 +246,7 @@ fn ripe(n: usize, r: u64, rounds: &[u64; 64]) -> u64
     m
 }
 
+#[tactic(auto, unfolding(crate::specs::Pending::settle_at))]
 fn judge_at(n: usize, t: usize, s: NodeTwoPcState) -> NodeTwoPcState
     ensures { result ≡ settle_at n t s }
 {
@@ -261,6 +270,7 @@ fn judge_all(n: usize, due: u64, s: NodeTwoPcState) -> NodeTwoPcState
 
 // What is pending is judged. Which of it is due is found first, by numbers alone: a state is copied only where it
 // changes.
+#[tactic(auto, using(crate::proofs::Judging::judged_due))]
 pub fn judge(n: usize, r: u64, rounds: &[u64; 64], s: NodeTwoPcState) -> NodeTwoPcState
     ensures { result ≡ judged n r rounds.now s }
 {
@@ -269,6 +279,7 @@ pub fn judge(n: usize, r: u64, rounds: &[u64; 64], s: NodeTwoPcState) -> NodeTwo
 }
 
 // What is pending and has an abort.
+#[tactic(auto, unfolding(crate::specs::Pending::fast_of))]
 pub fn fast_aborts(s: NodeTwoPcState) -> u64
     ensures { result ≡ fast_of s }
 {

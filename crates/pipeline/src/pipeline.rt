@@ -72,6 +72,7 @@ pub struct PipelineAnswer {
 
 impl PipelinePart {
     // As a room is opened: logs empty, no transaction generated, and nobody holds a packet.
+    #[tactic(auto, unfolding(crate::specs::Round::new_part))]
     pub fn new() -> PipelinePart
         ensures { result ≡ new_part }
     {
@@ -130,8 +131,8 @@ fn deliver_all(payloads: [RoundPacket; 64], q: RoundPacket, parts: u64) -> [Roun
     ps
 }
 
-#[tactic(auto, using(loops::specs::Upto::upto_none, loops::specs::Upto::upto_all), unfolding(crate::specs::Round::covered_of))]
 // How many of the first n hold this packet.
+#[tactic(auto, using(loops::specs::Upto::upto_none, loops::specs::Upto::upto_all), unfolding(crate::specs::Round::covered_of))]
 fn count_covered(q: RoundPacket, n: usize, holding: u64, payloads: [RoundPacket; 64]) -> u64
     ensures { result ≡ covered_of q n holding payloads }
 {
@@ -152,6 +153,7 @@ fn initiator(round: u64, n: usize) -> usize
 }
 
 // The length of the text that every flooder sends.
+#[tactic(auto, unfolding(crate::specs::Round::bytes_of))]
 fn packet_bytes(conf: PipelineConf, q: RoundPacket) -> u64
     ensures { result ≡ bytes_of conf q }
 {
@@ -159,6 +161,7 @@ fn packet_bytes(conf: PipelineConf, q: RoundPacket) -> u64
     two_pc_pipeline::pipeline_text_len(full) as u64
 }
 
+#[tactic(auto, unfolding(crate::specs::Round::flood_from))]
 fn flood_from(conf: PipelineConf, w: Network, i: usize, d: Draw) -> FloodRun
     ensures { result ≡ flood_from conf w i d }
 {
@@ -207,6 +210,7 @@ fn next_round(stop: bool, round: u64) -> u64
 }
 
 // What the initiator does before the flood.
+#[tactic(auto, unfolding(crate::specs::Round::preparing))]
 fn prepare_at(
     words: &[u64],
     conf: PipelineConf,
@@ -243,6 +247,7 @@ fn prepare_at(
 }
 
 // Whoever takes part processes the packet; the initiator's own state is as it was prepared.
+#[tactic(auto, unfolding(crate::specs::Round::processing))]
 fn process_at(
     words: &[u64],
     conf: PipelineConf,
@@ -382,6 +387,7 @@ fn write_round(
 }
 
 // Refusals 2, 14 and 15, for which the round need not be run.
+#[tactic(auto, unfolding(crate::specs::Round::early_refusal))]
 pub fn early_refusal(conf: PipelineConf, slot: u64, stop: bool) -> u64
     ensures { result ≡ early_refusal conf slot stop }
 {

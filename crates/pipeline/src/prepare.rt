@@ -33,6 +33,7 @@ pub struct Prepared {
 }
 
 // The outcome of a transaction, unless one is recorded already. A number of 64 or more enters nothing.
+#[tactic(auto, using(crate::proofs::Recorded::recorded_out), unfolding(crate::specs::Pipeline::record_tx))]
 pub fn record_tx(b: Records, t: usize, committed: bool, slot: u64) -> Records
     ensures { result ≡ record_tx t committed slot b }
 {
@@ -104,6 +105,7 @@ fn new_tx(
     }
 }
 
+#[tactic(auto, unfolding(crate::specs::Pipeline::begin_tx, crate::specs::Pipeline::is_fresh))]
 fn begin_tx(
     words: &[u64],
     p: f64,
@@ -125,6 +127,7 @@ fn begin_tx(
     new_tx(words, p, i, facts, txs, s, d)
 }
 
+#[tactic(auto, unfolding(crate::specs::Pipeline::record_due))]
 fn record_due(
     facts: RoundFacts,
     rounds: &[u64; 64],
@@ -156,6 +159,7 @@ fn record_judged(facts: RoundFacts, rounds: &[u64; 64], s: NodeTwoPcState, b: Re
     c
 }
 
+#[tactic(auto, unfolding(crate::specs::Pipeline::abort_of))]
 fn has_abort(s: NodeTwoPcState, t: usize) -> bool
     ensures { result ≡ abort_of s t }
 {
@@ -166,6 +170,7 @@ fn has_abort(s: NodeTwoPcState, t: usize) -> bool
 }
 
 // The votes known of a transaction while it is pending. A number of 64 or more is none.
+#[tactic(auto, unfolding(crate::specs::Pipeline::known_votes))]
 fn known_votes(s: NodeTwoPcState, t: usize) -> u64
     ensures { result ≡ known_votes s t }
 {
@@ -188,6 +193,7 @@ fn with_unless(abort: bool, m: u64, i: usize) -> u64
     pending::with(m, i)
 }
 
+#[tactic(auto, unfolding(crate::specs::Pipeline::round_packet))]
 fn make_packet(
     i: usize,
     t: usize,
@@ -213,6 +219,7 @@ fn make_packet(
 }
 
 // The gap is looked for first, then comes the new transaction, then what is due is judged, then the packet.
+#[tactic(auto, unfolding(crate::specs::Pipeline::prepare_round))]
 pub fn prepare_round(
     words: &[u64],
     p: f64,

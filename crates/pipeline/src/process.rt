@@ -45,14 +45,15 @@ pub struct AllProcessed {
     pub carried: Carried,
 }
 
-#[tactic(auto, unfolding(crate::specs::Pipeline::is_new))]
 // The packet brings a transaction that is neither pending nor logged here.
+#[tactic(auto, unfolding(crate::specs::Pipeline::is_new))]
 fn is_new(q: RoundPacket, s: NodeTwoPcState) -> bool
     ensures { result ≡ is_new q s }
 {
     q.fresh && !sets::is_marked(s.pending, q.tx) && !sets::is_marked(logs::logged(s.log), q.tx)
 }
 
+#[tactic(auto, unfolding(crate::specs::Pipeline::hear_new))]
 fn hear_new(words: &[u64], p: f64, i: usize, q: RoundPacket, s: NodeTwoPcState, d: Draw) -> Learnt
     ensures { result ≡ hear_new words.now p i q s d }
 {
@@ -68,6 +69,7 @@ fn hear_new(words: &[u64], p: f64, i: usize, q: RoundPacket, s: NodeTwoPcState, 
 }
 
 // Votes up to the packet's transaction, its abort, and the own vote.
+#[tactic(auto, unfolding(crate::specs::Pipeline::merge_round))]
 fn merge_round(i: usize, q: RoundPacket, s: NodeTwoPcState) -> NodeTwoPcState
     ensures { result ≡ merge_round i q s }
 {
@@ -100,6 +102,7 @@ fn take_up(p: Option<Outcome>, s: NodeTwoPcState) -> NodeTwoPcState
 }
 
 // The position has the outcome that was asked for.
+#[tactic(auto, unfolding(crate::specs::Pipeline::is_answer))]
 fn is_answer(nack: usize, s: NodeTwoPcState) -> bool
     ensures { result ≡ is_answer nack s }
 {
@@ -110,6 +113,7 @@ fn is_answer(nack: usize, s: NodeTwoPcState) -> bool
     sets::is_marked(logs::logged(g), nack)
 }
 
+#[tactic(auto, unfolding(crate::specs::Pipeline::answer_nack))]
 fn answer_nack(nack: usize, s: NodeTwoPcState, l: Carried) -> Carried
     ensures { result ≡ answer_nack nack s l }
 {
@@ -132,6 +136,7 @@ fn answer_nack(nack: usize, s: NodeTwoPcState, l: Carried) -> Carried
 }
 
 // All steps of one position, in the Rust's order. Its own judgements come last and are not recorded.
+#[tactic(auto, unfolding(crate::specs::Pipeline::process_one))]
 fn process_one(
     words: &[u64],
     p: f64,
@@ -207,8 +212,8 @@ pub fn parts(n: usize, initiator: usize, sleeping: u64) -> u64
     sets::intersection(all, sets::first_marks(n))
 }
 
-#[tactic(auto, using(loops::specs::Upto::upto_none, loops::specs::Upto::upto_turn, loops::specs::Upto::upto_all), unfolding(crate::specs::Pipeline::shorter_at, crate::specs::Pipeline::shortest_log))]
 // The length of the shortest log of the first n.
+#[tactic(auto, using(loops::specs::Upto::upto_none, loops::specs::Upto::upto_turn, loops::specs::Upto::upto_all), unfolding(crate::specs::Pipeline::shorter_at, crate::specs::Pipeline::shortest_log))]
 pub fn shortest_log(states: [NodeTwoPcState; 64], n: usize) -> usize
     ensures { result ≡ shortest_log n states }
 {
@@ -228,8 +233,8 @@ fn progress(v: Node, done: u64, goal: bool) -> Node
     w
 }
 
-#[tactic(auto, using(loops::specs::Upto::upto_none, loops::specs::Upto::upto_turn, loops::specs::Upto::upto_all), unfolding(crate::specs::Pipeline::progress_at, crate::specs::Pipeline::progress_all))]
 // Everybody's progress, and whether its own log is complete.
+#[tactic(auto, using(loops::specs::Upto::upto_none, loops::specs::Upto::upto_turn, loops::specs::Upto::upto_all), unfolding(crate::specs::Pipeline::progress_at, crate::specs::Pipeline::progress_all))]
 pub fn progress_all(
     at: [Node; 64],
     n: usize,
@@ -247,8 +252,8 @@ pub fn progress_all(
     a
 }
 
-#[tactic(auto, unfolding(crate::specs::Pipeline::stops_at))]
 // All have all, and all were generated; or it has idled too long. Written so that no sum can wrap.
+#[tactic(auto, unfolding(crate::specs::Pipeline::stops_at))]
 pub fn stops(num_txs: usize, done: usize, counter: usize, round: u64) -> bool
     ensures { result ≡ stops_at num_txs done counter round }
 {
