@@ -1,15 +1,13 @@
 -- One position more that holds the packet, or does not; and the derived test for the same packet. Assumes nothing.
-use Rattle.std.proofs.Common.{◌≡◌, ℕ, ◌+◌, ◌%◌, ◌^◌, ◌&&◌, Bool, true, false, Option, Some, None, List, eqb, get_or, sym, refl}
+use Rattle.std.proofs.Common.{◌≡◌, ℕ, ◌+◌, ◌%◌, ◌^◌, ◌&&◌, Bool, true, false, Option, Some, None, List, eqb, get_or, refl}
 use mathlib.Core.Bool.{beq}
 use Rattle.std.specs.Option.{option_eq}
-use Rattle.loops.specs.Pick.{either}
 use Rattle.loops.specs.Upto.{upto, upto_turn}
 use Rattle.marks.specs.Marks.{has}
 use Rattle.pipeline.specs.Pipeline.{same_bool, same_piggyback, same_packet}
 use Rattle.pipeline.specs.Round.{no_packet, is_covered, cover_at}
 use Rattle.pipeline.specs.declared.two_pc_pipeline.Outcome.{Outcome}
 use Rattle.pipeline.specs.declared.two_pc_pipeline.RoundPacket.{RoundPacket}
-use Rattle.pipeline.proofs.Packing.{same_self}
 
 -- ---- the derived test
 

@@ -1,5 +1,5 @@
 -- Two searches that end early: the first entry of a log with a transaction, and the lowest gap. Assumes nothing.
-use Rattle.std.proofs.Common.{◌≡◌, ◌≢◌, ℕ, zero, suc, ◌+◌, ◌<◌, ◌≤◌, Bool, true, false, Option, Some, None, List, get_or, refl, ap, ◌∙◌, sub-one, add-one, arith, eq-eqb, ne_eqb}
+use Rattle.std.proofs.Common.{◌≡◌, ◌≢◌, ℕ, zero, suc, ◌+◌, ◌<◌, ◌≤◌, Bool, true, false, Some, None, List, get_or, refl, ap, ◌∙◌, sub-one, arith, eq-eqb, ne_eqb}
 use Rattle.std.proofs.Math.Decide.{dec_lt}
 use Rattle.loops.specs.Upto.{upto, upto_more}
 use Rattle.loops.specs.Downto.{downto}
