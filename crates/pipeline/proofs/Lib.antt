@@ -15,3 +15,4 @@ pub mod Traps
 pub mod Sent
 pub mod Finding
 pub mod Counting
+pub mod Turns

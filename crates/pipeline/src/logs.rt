@@ -1,6 +1,5 @@
 // RULES 10.7. Logs: ordered lists of outcomes that are only ever added to.
-ghost use Rattle.std.specs.Prelude.{◌≡◌, ◌==◌};
-ghost use Rattle.loops.specs.Pick.{either};
+ghost use Rattle.std.specs.Prelude.{◌≡◌};
 ghost use Rattle.pipeline.specs.Pending.{logged_of, outcome_of, pushed};
 
 use super::two_pc_pipeline::{LogEntry, TxLog};
@@ -8,8 +7,7 @@ use engines::clamp;
 use graph::sets;
 
 // The transactions of a log, a mark each.
-// One entry more. A full log stays as it is, and so does one that is to have a number of 64 or more.
-#[tactic(auto, using(loops::specs::Upto::upto_none, loops::specs::Upto::upto_turn, loops::specs::Upto::upto_all, engines::proofs::Marking::with_is), unfolding(crate::specs::Pending::logged_of))]
+#[tactic(auto, using(crate::proofs::Turns::turns, engines::proofs::Marking::with_is), unfolding(crate::specs::Pending::logged_of))]
 pub fn logged(g: TxLog) -> u64
     ensures { result ≡ logged_of g }
 {
@@ -33,6 +31,7 @@ pub fn outcome(g: TxLog, t: usize) -> bool
     false
 }
 
+// One entry more. A full log stays as it is, and so does one that is to have a number of 64 or more.
 #[tactic(auto, unfolding(crate::specs::Pending::pushed))]
 pub fn push(g: TxLog, t: usize, committed: bool) -> TxLog
     ensures { result ≡ pushed t committed g }

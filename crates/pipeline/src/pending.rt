@@ -3,7 +3,7 @@ ghost use Rattle.std.specs.Prelude.{◌≡◌, ℕ, ◌<◌, ◌&&◌, ◌||◌,
 ghost use Rattle.loops.specs.Pick.{either};
 ghost use Rattle.marks.specs.Marks.{has};
 ghost use Rattle.engines.specs.Marked.{over_marks, with_mark};
-ghost use Rattle.pipeline.specs.Pending.{join_marks, common_marks, without_mark, finalize_tx, unanimous_of, open_tx, votes_at, merge_votes, merge_abort, gap_at, gap_of, nack_of, vote_of, is_judged, ripe_of, settle_at, judged, fast_of, abort_all, own_vote};
+ghost use Rattle.pipeline.specs.Pending.{join_marks, common_marks, without_mark, finalize_tx, unanimous_of, open_tx, votes_at, merge_votes, merge_abort, gap_of, nack_of, vote_of, is_judged, ripe_of, settle_at, judged, fast_of, abort_all, own_vote};
 
 use super::logs;
 use super::two_pc_pipeline::{NodeTwoPcState, Vote};
@@ -41,16 +41,13 @@ pub fn common(a: u64, b: u64) -> u64
 pub fn finalize_tx(s: NodeTwoPcState, t: usize, committed: bool) -> NodeTwoPcState
     ensures { result ≡ finalize_tx t committed s }
 {
-    let g = s.log;
-    if sets::is_marked(logs::logged(g), t) {
+    if sets::is_marked(logs::logged(s.log), t) {
         return s;
     }
-    let votes = s.votes;
     NodeTwoPcState {
-        log: logs::push(g, t, committed),
+        log: logs::push(s.log, t, committed),
         pending: without(s.pending, t),
-        aborts: s.aborts,
-        votes,
+        ..s
     }
 }
 
@@ -68,17 +65,13 @@ pub fn check_unanimity(n: usize, s: NodeTwoPcState, t: usize) -> bool
     if sets::is_marked(s.aborts, t) {
         return false;
     }
-    let votes = s.votes;
-    sets::all_marked(votes[t], n)
+    sets::all_marked(s.votes[t], n)
 }
 
 fn mark_or_not(m: u64, i: usize, yes: bool) -> u64
     ensures { result ≡ either yes (with_mark m i) (without_mark m i) }
 {
-    if yes {
-        return with(m, i);
-    }
-    without(m, i)
+    if yes { with(m, i) } else { without(m, i) }
 }
 
 // A transaction becomes pending. A number of 64 or more is none.
@@ -89,14 +82,13 @@ pub fn open_tx(s: NodeTwoPcState, t: usize, bits: u64, abort: bool) -> NodeTwoPc
     if t >= 64 {
         return s;
     }
-    let log = s.log;
     let mut votes = s.votes;
     votes[t] = bits;
     NodeTwoPcState {
-        log,
         pending: with(s.pending, t),
         aborts: mark_or_not(s.aborts, t, abort),
         votes,
+        ..s
     }
 }
 
@@ -105,10 +97,9 @@ fn join_at(votes: &mut [u64; 64], t: usize, top: usize, bits: u64)
     requires { t < 64 }
     ensures { votes.new ≡ votes_at top bits t votes.old }
 {
-    if t > top {
-        return;
+    if t <= top {
+        votes[t] = join(votes[t], bits);
     }
-    votes[t] = join(votes[t], bits);
 }
 
 fn join_up_to(votes: &mut [u64; 64], pending: u64, top: usize, bits: u64)
@@ -127,15 +118,9 @@ fn join_up_to(votes: &mut [u64; 64], pending: u64, top: usize, bits: u64)
 pub fn merge_votes_up_to(s: NodeTwoPcState, top: usize, bits: u64) -> NodeTwoPcState
     ensures { result ≡ merge_votes top bits s }
 {
-    let log = s.log;
     let mut votes = s.votes;
     join_up_to(&mut votes, s.pending, top, bits);
-    NodeTwoPcState {
-        log,
-        pending: s.pending,
-        aborts: s.aborts,
-        votes,
-    }
+    NodeTwoPcState { votes, ..s }
 }
 
 // An abort goes to the packet's transaction only.
@@ -143,19 +128,12 @@ pub fn merge_votes_up_to(s: NodeTwoPcState, top: usize, bits: u64) -> NodeTwoPcS
 pub fn merge_abort(s: NodeTwoPcState, t: usize, abort: bool) -> NodeTwoPcState
     ensures { result ≡ merge_abort t abort s }
 {
-    if !abort {
+    if !abort || !sets::is_marked(s.pending, t) {
         return s;
     }
-    if !sets::is_marked(s.pending, t) {
-        return s;
-    }
-    let log = s.log;
-    let votes = s.votes;
     NodeTwoPcState {
-        log,
-        pending: s.pending,
         aborts: with(s.aborts, t),
-        votes,
+        ..s
     }
 }
 
@@ -164,10 +142,7 @@ pub fn merge_abort(s: NodeTwoPcState, t: usize, abort: bool) -> NodeTwoPcState
 pub fn own_vote(s: NodeTwoPcState, i: usize, top: usize) -> NodeTwoPcState
     ensures { result ≡ own_vote i top s }
 {
-    if !sets::is_marked(s.pending, top) {
-        return s;
-    }
-    if sets::is_marked(s.aborts, top) {
+    if !sets::is_marked(s.pending, top) || sets::is_marked(s.aborts, top) {
         return s;
     }
     merge_votes_up_to(s, top, with(0, i))
@@ -201,18 +176,17 @@ pub fn vote(words: &[u64], p: f64, i: usize, bits: u64, abort: bool, d: Draw) ->
     ensures { result ≡ vote_of words.now p i bits abort d }
 {
     let x = words::next(words, d);
-    let e = x.draw;
     if words::lost(x.word, p) {
         return Vote {
             bits,
             abort: true,
-            draw: e,
+            draw: x.draw,
         };
     }
     Vote {
         bits: with(bits, i),
         abort,
-        draw: e,
+        draw: x.draw,
     }
 }
 
@@ -228,10 +202,7 @@ pub fn is_judged(n: usize, r: u64, start: u64) -> bool
 fn mark_if(m: u64, t: usize, yes: bool) -> u64
     ensures { (k : ℕ) → has result k ≡ (has m k || (yes && (nat_lt k 64 && k == t))) }
 {
-    if yes {
-        return sets::with_mark(m, t);
-    }
-    m
+    if yes { sets::with_mark(m, t) } else { m }
 }
 
 // The transactions for which n rounds have passed, pending or not.
@@ -250,8 +221,7 @@ fn ripe(n: usize, r: u64, rounds: &[u64; 64]) -> u64
 fn judge_at(n: usize, t: usize, s: NodeTwoPcState) -> NodeTwoPcState
     ensures { result ≡ settle_at n t s }
 {
-    let committed = check_unanimity(n, s, t);
-    finalize_tx(s, t, committed)
+    finalize_tx(s, t, check_unanimity(n, s, t))
 }
 
 // These are judged, the lowest first.

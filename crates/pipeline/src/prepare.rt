@@ -1,6 +1,6 @@
 // RULES 10.3. prepare_round of sim/two_pc_pipeline.rs: what the initiator does before the flood, and the packet that
 // it floods.
-ghost use Rattle.std.specs.Prelude.{◌≡◌, ◌-◌, ◌<◌, false};
+ghost use Rattle.std.specs.Prelude.{◌≡◌, ◌<◌, false};
 ghost use Rattle.loops.specs.Pick.{either};
 ghost use Rattle.engines.specs.Marked.{with_mark};
 ghost use Rattle.pipeline.specs.Pending.{vote_of};
@@ -37,37 +37,26 @@ pub struct Prepared {
 pub fn record_tx(b: Records, t: usize, committed: bool, slot: u64) -> Records
     ensures { result ≡ record_tx t committed slot b }
 {
-    if t >= 64 {
-        return b;
-    }
-    let g = b.log;
-    if sets::is_marked(logs::logged(g), t) {
+    if t >= 64 || sets::is_marked(logs::logged(b.log), t) {
         return b;
     }
     let mut ends = b.ends;
     ends[t] = slot;
     Records {
-        log: logs::push(g, t, committed),
+        log: logs::push(b.log, t, committed),
         ends,
     }
-}
-
-fn last_tx(counter: usize) -> usize
-    ensures { result ≡ counter - 1 }
-{
-    if counter == 0 { 0 } else { counter - 1 }
 }
 
 // The last transaction once more, without data.
 fn old_tx(txs: Txs, s: NodeTwoPcState, d: Draw) -> Begun
     ensures { result ≡ old_tx txs s d }
 {
-    let tx = last_tx(txs.counter);
     Begun {
         state: s,
         txs,
         fresh: false,
-        tx,
+        tx: txs.counter.saturating_sub(1),
         draw: d,
     }
 }
@@ -91,7 +80,6 @@ fn new_tx(
     starts[t] = facts.slot;
     let mut rounds = txs.rounds;
     rounds[t] = facts.round;
-    let e = v.draw;
     Begun {
         state: pending::open_tx(s, t, v.bits, v.abort),
         txs: Txs {
@@ -101,7 +89,7 @@ fn new_tx(
         },
         fresh: true,
         tx: t,
-        draw: e,
+        draw: v.draw,
     }
 }
 
@@ -118,10 +106,7 @@ fn begin_tx(
 ) -> Begun
     ensures { result ≡ begin_tx words.now p i facts.round facts.slot num_txs txs s d }
 {
-    if txs.counter >= num_txs {
-        return old_tx(txs, s, d);
-    }
-    if txs.counter >= 64 {
+    if txs.counter >= num_txs || txs.counter >= 64 {
         return old_tx(txs, s, d);
     }
     new_tx(words, p, i, facts, txs, s, d)
@@ -163,10 +148,7 @@ fn record_judged(facts: RoundFacts, rounds: &[u64; 64], s: NodeTwoPcState, b: Re
 fn has_abort(s: NodeTwoPcState, t: usize) -> bool
     ensures { result ≡ abort_of s t }
 {
-    if !sets::is_marked(s.pending, t) {
-        return false;
-    }
-    sets::is_marked(s.aborts, t)
+    sets::is_marked(s.pending, t) && sets::is_marked(s.aborts, t)
 }
 
 // The votes known of a transaction while it is pending. A number of 64 or more is none.
@@ -174,23 +156,17 @@ fn has_abort(s: NodeTwoPcState, t: usize) -> bool
 fn known_votes(s: NodeTwoPcState, t: usize) -> u64
     ensures { result ≡ known_votes s t }
 {
-    if t >= 64 {
-        return 0;
+    if t < 64 && sets::is_marked(s.pending, t) {
+        s.votes[t]
+    } else {
+        0
     }
-    if !sets::is_marked(s.pending, t) {
-        return 0;
-    }
-    let votes = s.votes;
-    votes[t]
 }
 
 fn with_unless(abort: bool, m: u64, i: usize) -> u64
     ensures { result ≡ either abort m (with_mark m i) }
 {
-    if abort {
-        return m;
-    }
-    pending::with(m, i)
+    if abort { m } else { pending::with(m, i) }
 }
 
 #[tactic(auto, unfolding(crate::specs::Pipeline::round_packet))]
@@ -205,11 +181,9 @@ fn make_packet(
     ensures { result ≡ round_packet i t fresh nack piggyback s }
 {
     let abort = has_abort(s, t);
-    let known = known_votes(s, t);
-    let bits = with_unless(abort, known, i);
     RoundPacket {
         tx: t,
-        bits,
+        bits: with_unless(abort, known_votes(s, t), i),
         abort,
         nack,
         fresh,
@@ -236,18 +210,12 @@ pub fn prepare_round(
 {
     let nack = pending::nack(s, txs.counter);
     let b = begin_tx(words, p, i, facts, num_txs, txs, s, d);
-    let began = b.state;
-    let after = b.txs;
-    let rounds = after.rounds;
-    let noted = record_judged(facts, &rounds, began, records);
-    let own = pending::judge(facts.n, facts.round, &rounds, began);
-    let packet = make_packet(i, b.tx, b.fresh, nack, piggyback, own);
-    let e = b.draw;
+    let own = pending::judge(facts.n, facts.round, &b.txs.rounds, b.state);
     Prepared {
         state: own,
-        txs: after,
-        records: noted,
-        packet,
-        draw: e,
+        txs: b.txs,
+        records: record_judged(facts, &b.txs.rounds, b.state, records),
+        packet: make_packet(i, b.tx, b.fresh, nack, piggyback, own),
+        draw: b.draw,
     }
 }

@@ -61,10 +61,9 @@ fn hear_new(words: &[u64], p: f64, i: usize, q: RoundPacket, s: NodeTwoPcState, 
         return Learnt { state: s, draw: d };
     }
     let v = pending::vote(words, p, i, q.bits, q.abort, d);
-    let e = v.draw;
     Learnt {
         state: pending::open_tx(s, q.tx, v.bits, v.abort),
-        draw: e,
+        draw: v.draw,
     }
 }
 
@@ -109,8 +108,7 @@ fn is_answer(nack: usize, s: NodeTwoPcState) -> bool
     if nack == 0 {
         return false;
     }
-    let g = s.log;
-    sets::is_marked(logs::logged(g), nack)
+    sets::is_marked(logs::logged(s.log), nack)
 }
 
 #[tactic(auto, unfolding(crate::specs::Pipeline::answer_nack))]
@@ -120,18 +118,13 @@ fn answer_nack(nack: usize, s: NodeTwoPcState, l: Carried) -> Carried
     if !is_answer(nack, s) {
         return l;
     }
-    let g = s.log;
-    let committed = logs::outcome(g, nack);
-    let d = l.draw;
-    let b = l.records;
     Carried {
-        draw: d,
-        records: b,
         piggyback: Some(Outcome {
             tx: nack,
-            committed,
+            committed: logs::outcome(s.log, nack),
         }),
-        answers: std::num::wrapping_add_u64(l.answers, 1),
+        answers: l.answers.wrapping_add(1),
+        ..l
     }
 }
 
@@ -149,27 +142,18 @@ fn process_one(
 ) -> Processed
     ensures { result ≡ process_one words.now p facts rounds.now q i s l }
 {
-    let d = l.draw;
-    let h = hear_new(words, p, i, q, s, d);
-    let heard = h.state;
-    let merged = merge_round(i, q, heard);
+    let heard = hear_new(words, p, i, q, s, l.draw);
+    let merged = merge_round(i, q, heard.state);
     let fast = pending::fast_aborts(merged);
-    let records = l.records;
-    let noted = record_aborts(facts.slot, fast, records);
-    let aborted = pending::abort_all(merged, fast);
-    let told = q.piggyback;
-    let taken = take_up(told, aborted);
-    let e = h.draw;
-    let piggyback = l.piggyback;
-    let m = Carried {
-        draw: e,
-        records: noted,
-        piggyback,
-        answers: l.answers,
+    let taken = take_up(q.piggyback, pending::abort_all(merged, fast));
+    let noted = Carried {
+        draw: heard.draw,
+        records: record_aborts(facts.slot, fast, l.records),
+        ..l
     };
     Processed {
         state: pending::judge(facts.n, facts.round, rounds, taken),
-        carried: answer_nack(q.nack, taken, m),
+        carried: answer_nack(q.nack, taken, noted),
     }
 }
 
@@ -191,10 +175,8 @@ pub fn process_all(
     let mut left = parts;
     while left != 0 {
         let i = sets::lowest_mark(left);
-        let s = ss[i];
-        let x = process_one(words, p, facts, rounds, q, i, s, m);
-        let t = x.state;
-        ss[i] = t;
+        let x = process_one(words, p, facts, rounds, q, i, ss[i], m);
+        ss[i] = x.state;
         m = x.carried;
         left = sets::without_mark(left, i);
     }
@@ -213,7 +195,7 @@ pub fn parts(n: usize, initiator: usize, sleeping: u64) -> u64
 }
 
 // The length of the shortest log of the first n.
-#[tactic(auto, using(loops::specs::Upto::upto_none, loops::specs::Upto::upto_turn, loops::specs::Upto::upto_all), unfolding(crate::specs::Pipeline::shorter_at, crate::specs::Pipeline::shortest_log))]
+#[tactic(auto, using(crate::proofs::Turns::turns), unfolding(crate::specs::Pipeline::shorter_at, crate::specs::Pipeline::shortest_log))]
 pub fn shortest_log(states: [NodeTwoPcState; 64], n: usize) -> usize
     ensures { result ≡ shortest_log n states }
 {
@@ -227,14 +209,15 @@ pub fn shortest_log(states: [NodeTwoPcState; 64], n: usize) -> usize
 fn progress(v: Node, done: u64, goal: bool) -> Node
     ensures { result ≡ progressed done goal v }
 {
-    let mut w = v;
-    w.goal_reached = goal;
-    w.progress_count = done;
-    w
+    Node {
+        goal_reached: goal,
+        progress_count: done,
+        ..v
+    }
 }
 
 // Everybody's progress, and whether its own log is complete.
-#[tactic(auto, using(loops::specs::Upto::upto_none, loops::specs::Upto::upto_turn, loops::specs::Upto::upto_all), unfolding(crate::specs::Pipeline::progress_at, crate::specs::Pipeline::progress_all))]
+#[tactic(auto, using(crate::proofs::Turns::turns), unfolding(crate::specs::Pipeline::progress_at, crate::specs::Pipeline::progress_all))]
 pub fn progress_all(
     at: [Node; 64],
     n: usize,

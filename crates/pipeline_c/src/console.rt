@@ -206,7 +206,7 @@ fn put_state(xs: &mut [u64], at: usize, s: NodeTwoPcState)
     numbers::put_run(xs, at, 67, &s.votes);
 }
 
-#[tactic(auto, using(loops::specs::Upto::upto_none, loops::specs::Upto::upto_turn, loops::specs::Upto::upto_all), unfolding(crate::specs::Console::state_to, crate::specs::Console::put_states))]
+#[tactic(auto, using(pipeline::proofs::Turns::turns), unfolding(crate::specs::Console::state_to, crate::specs::Console::put_states))]
 fn put_states(xs: &mut [u64], states: [NodeTwoPcState; 64])
     ensures { xs.new ≡ put_states states xs.old }
 {
@@ -249,7 +249,7 @@ fn put_packet(xs: &mut [u64], k: usize, q: RoundPacket)
     numbers::put_run(xs, 9173, k, &values);
 }
 
-#[tactic(auto, using(loops::specs::Upto::upto_none, loops::specs::Upto::upto_turn, loops::specs::Upto::upto_all), unfolding(crate::specs::Console::packet_to, crate::specs::Console::put_packets))]
+#[tactic(auto, using(pipeline::proofs::Turns::turns), unfolding(crate::specs::Console::packet_to, crate::specs::Console::put_packets))]
 fn put_packets(xs: &mut [u64], payloads: [RoundPacket; 64])
     ensures { xs.new ≡ put_packets payloads xs.old }
 {
