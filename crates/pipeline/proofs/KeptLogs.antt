@@ -1,6 +1,6 @@
 -- RULES 11.9, the logs, over a whole round: what each step keeps, each position keeps, and so the room.
 -- Assumes nothing.
-use Rattle.std.proofs.Common.{ℕ, zero, suc, Bool, true, false, eqb, List, [], ◌∷◌, get_or, set}
+use Rattle.std.proofs.Common.{ℕ, zero, suc, Bool, true, false, eqb, Option, Some, None, List, [], ◌∷◌, get_or, set}
 use lib.Ieee.{Float}
 use Rattle.loops.specs.Pick.{either}
 use Rattle.loops.specs.Upto.{upto_holds}
@@ -15,8 +15,7 @@ use Rattle.engines.specs.declared.words.Draw.{Draw}
 use Rattle.pipeline.specs.declared.two_pc_pipeline.TxLog.{TxLog}
 use Rattle.pipeline.specs.declared.two_pc_pipeline.NodeTwoPcState.{NodeTwoPcState}
 use Rattle.pipeline.specs.declared.two_pc_pipeline.Vote.{Vote}
-use Rattle.pipeline.specs.declared.two_pc_pipeline.Piggyback.{Piggyback}
-use Rattle.pipeline.specs.declared.two_pc_pipeline.Piggyback.TheVariants.{Absent, Present}
+use Rattle.pipeline.specs.declared.two_pc_pipeline.Outcome.{Outcome}
 use Rattle.pipeline.specs.declared.two_pc_pipeline.RoundPacket.{RoundPacket}
 use Rattle.pipeline.specs.declared.two_pc_pipeline.Records.{Records}
 use Rattle.pipeline.specs.declared.two_pc_pipeline.Txs.{Txs}
@@ -42,7 +41,7 @@ begin_kept ws p i r slot t txs s d = by (is_fresh t txs)
     by true = open_kept txs.counter v.bits v.abort s
     by false = grown_same s.log
 
-pub prepare_kept : (ws : List ℕ) (p : Float) (i : ℕ) (facts : RoundFacts) (t : ℕ) (txs : Txs) (records : Records) (pb : Piggyback) (s : NodeTwoPcState) (d : Draw) → Kept s (prepare_round ws p i facts t txs records pb s d).state
+pub prepare_kept : (ws : List ℕ) (p : Float) (i : ℕ) (facts : RoundFacts) (t : ℕ) (txs : Txs) (records : Records) (pb : Option Outcome) (s : NodeTwoPcState) (d : Draw) → Kept s (prepare_round ws p i facts t txs records pb s d).state
 unfolding prepare_round
 prepare_kept ws p i facts t txs records pb s d =
     grown_more (begin_kept ws p i facts.round facts.slot t txs s d) (judged_kept facts.n facts.round _ (begin_tx ws p i facts.round facts.slot t txs s d).state)
@@ -63,10 +62,10 @@ unfolding merge_round
 merge_kept i q s =
     grown_more (votes_kept q.tx q.bits s) (grown_more (abort_kept q.tx q.abort (merge_votes q.tx q.bits s)) (own_kept i q.tx (merge_abort q.tx q.abort (merge_votes q.tx q.bits s))))
 
-take_kept : (b : Piggyback) (s : NodeTwoPcState) → Kept s (take_up b s)
+take_kept : (b : Option Outcome) (s : NodeTwoPcState) → Kept s (take_up b s)
 unfolding take_up
-take_kept Absent s = grown_same s.log
-take_kept (Present t o) s = finalize_kept t o s
+take_kept None s = grown_same s.log
+take_kept (Some o) s = finalize_kept o.tx o.committed s
 
 pub process_kept : (ws : List ℕ) (p : Float) (facts : RoundFacts) (rounds : List ℕ) (q : RoundPacket) (i : ℕ) (s : NodeTwoPcState) (l : Carried) → Kept s (process_one ws p facts rounds q i s l).state
 unfolding process_one
@@ -118,7 +117,7 @@ close_kept ws conf p i prep f =
     (parts_of (size_of conf) i (sets_of (size_of conf) f.network.nodes).sleeping)
     (record {
       states = set p.states i prep.state;
-      carried = record { draw = f.draw; records = prep.records; piggyback = Absent; answers = 0 };
+      carried = record { draw = f.draw; records = prep.records; piggyback = None; answers = 0 };
     })
 
 pub preparing_kept : (ws : List ℕ) (conf : PipelineConf) (slot : ℕ) (p : PipelinePart) (i : ℕ) (d : Draw)

@@ -13,3 +13,6 @@ pub mod Valid
 pub mod Covering
 pub mod Traps
 pub mod Sent
+pub mod Finding
+pub mod Counting
+pub mod Turns

@@ -1,6 +1,5 @@
 -- Different round packets stand for different packets, and `same_packet` tells them apart.
-use Rattle.std.specs.Prelude.{Option, Some, None}
-use Rattle.std.proofs.Common.{◌≡◌, ℕ, suc, Bool, true, false, eqb, ltb, sym, refl, ap, ◌∙◌, arith, eq-eqb, eqb-true}
+use Rattle.std.proofs.Common.{◌≡◌, ℕ, suc, Bool, true, false, Option, Some, None, eqb, ltb, sym, refl, ap, ◌∙◌, arith, eq-eqb, eqb-true}
 use mir.Val.{bool_byte}
 use Rattle.marks.specs.Sets.{and_true, true_and}
 use Rattle.packets.specs.Packets.{pipeline_text, ValidPipeline}
@@ -11,8 +10,7 @@ use Rattle.packets.specs.declared.TwoPcPhase.TheVariants.{Prepare, Committed, Ab
 use Rattle.packets.specs.declared.Data.{Data}
 use Rattle.packets.specs.declared.TwoPcPacket.{TwoPcPacket}
 use Rattle.pipeline.specs.Pipeline.{data_of, phase_of, piggyback_tx, piggyback_state, packet_of, same_bool, same_piggyback, same_packet}
-use Rattle.pipeline.specs.declared.two_pc_pipeline.Piggyback.{Piggyback}
-use Rattle.pipeline.specs.declared.two_pc_pipeline.Piggyback.TheVariants.{Absent, Present}
+use Rattle.pipeline.specs.declared.two_pc_pipeline.Outcome.{Outcome}
 use Rattle.pipeline.specs.declared.two_pc_pipeline.RoundPacket.{RoundPacket}
 
 -- the data is there just if the packet is fresh
@@ -49,19 +47,25 @@ outcome_same false true h = absurd (omega arith)
 next_same : {a b : ℕ} → suc a ≡ suc b → a ≡ b
 next_same h = omega arith
 
-present_same : {t u : ℕ} {o p : Bool} → t ≡ u → o ≡ p → Present t o ≡ Present u p
-present_same e g = rw (e, g)
+abbrev told : ℕ → Bool → Option Outcome
+told t b = Some (record { tx = t; committed = b })
 
-piggyback_same : (a b : Piggyback) → tx_tag (piggyback_tx a) ≡ tx_tag (piggyback_tx b) → state_tag (piggyback_state a) ≡ state_tag (piggyback_state b) → a ≡ b
-piggyback_same Absent Absent e g = refl
-piggyback_same Absent (Present u p) e g = absurd (omega arith)
-piggyback_same (Present t o) Absent e g = absurd (omega arith)
-piggyback_same (Present t o) (Present u p) e g = present_same (next_same e) (outcome_same o p (next_same g))
+told_same : (t u : ℕ) (b c : Bool) → t ≡ u → b ≡ c → told t b ≡ told u c
+told_same t u b c e g = rw (e, g)
 
-abbrev packed : ℕ → ℕ → Bool → ℕ → Bool → ℕ → Piggyback → RoundPacket
+some_same : {o p : Outcome} → o.tx ≡ p.tx → o.committed ≡ p.committed → ◌≡◌ {A = Option Outcome} (Some o) (Some p)
+some_same {o} {p} e g = told_same o.tx p.tx o.committed p.committed e g
+
+piggyback_same : (a b : Option Outcome) → tx_tag (piggyback_tx a) ≡ tx_tag (piggyback_tx b) → state_tag (piggyback_state a) ≡ state_tag (piggyback_state b) → a ≡ b
+piggyback_same None None e g = refl
+piggyback_same None (Some p) e g = absurd (omega arith)
+piggyback_same (Some o) None e g = absurd (omega arith)
+piggyback_same (Some o) (Some p) e g = some_same (next_same e) (outcome_same o.committed p.committed (next_same g))
+
+abbrev packed : ℕ → ℕ → Bool → ℕ → Bool → ℕ → Option Outcome → RoundPacket
 packed t b a k f i q = record { tx = t; bits = b; abort = a; nack = k; fresh = f; sender = i; piggyback = q }
 
-fields_same : {t t₂ b b₂ k k₂ i i₂ : ℕ} {a a₂ f f₂ : Bool} {q q₂ : Piggyback} → t ≡ t₂ → b ≡ b₂ → a ≡ a₂ → k ≡ k₂ → f ≡ f₂ → i ≡ i₂ → q ≡ q₂ → packed t b a k f i q ≡ packed t₂ b₂ a₂ k₂ f₂ i₂ q₂
+fields_same : {t t₂ b b₂ k k₂ i i₂ : ℕ} {a a₂ f f₂ : Bool} {q q₂ : Option Outcome} → t ≡ t₂ → b ≡ b₂ → a ≡ a₂ → k ≡ k₂ → f ≡ f₂ → i ≡ i₂ → q ≡ q₂ → packed t b a k f i q ≡ packed t₂ b₂ a₂ k₂ f₂ i₂ q₂
 fields_same e1 e2 e3 e4 e5 e6 e7 = rw (e1, e2, e3, e4, e5, e6, e7)
 
 -- No two round packets stand for one packet.
@@ -86,21 +90,22 @@ bool_self : (a : Bool) → same_bool a a ≡ true
 bool_self true = refl
 bool_self false = refl
 
-piggyback_true : (a b : Piggyback) → same_piggyback a b ≡ true → a ≡ b
-piggyback_true Absent Absent h = refl
-piggyback_true Absent (Present u p) h = absurd (no h)
+piggyback_true : (a b : Option Outcome) → same_piggyback a b ≡ true → a ≡ b
+piggyback_true None None h = refl
+piggyback_true None (Some p) h = absurd (no h)
   where
     no : false ≡ true → ⊥
     no e = omega (arith, ap bool_byte e)
-piggyback_true (Present t o) Absent h = absurd (no h)
+piggyback_true (Some o) None h = absurd (no h)
   where
     no : false ≡ true → ⊥
     no e = omega (arith, ap bool_byte e)
-piggyback_true (Present t o) (Present u p) h = let q = and_true (eqb t u) (same_bool o p) h in present_same (eqb-true t u q.0) (bool_true o p q.1)
+piggyback_true (Some o) (Some p) h =
+    let q = and_true (eqb o.tx p.tx) (same_bool o.committed p.committed) h in some_same (eqb-true o.tx p.tx q.0) (bool_true o.committed p.committed q.1)
 
-piggyback_self : (a : Piggyback) → same_piggyback a a ≡ true
-piggyback_self Absent = refl
-piggyback_self (Present t o) = true_and (eqb t t) (same_bool o o) (eq-eqb t t refl) (bool_self o)
+piggyback_self : (a : Option Outcome) → same_piggyback a a ≡ true
+piggyback_self None = refl
+piggyback_self (Some o) = true_and (eqb o.tx o.tx) (same_bool o.committed o.committed) (eq-eqb o.tx o.tx refl) (bool_self o.committed)
 
 -- What it takes for the same is the same ..
 pub same_packet_lem : (a b : RoundPacket) → same_packet a b ≡ true → a ≡ b

@@ -1,5 +1,5 @@
 -- Words that have run short stay so over what follows the flood in a round. Assumes nothing.
-use Rattle.std.proofs.Common.{◌≡◌, ℕ, true, List, get_or, set}
+use Rattle.std.proofs.Common.{◌≡◌, ℕ, true, None, List, get_or, set}
 use lib.Ieee.{Float}
 use Rattle.engines.specs.Nodes.{sets_of}
 use Rattle.engines.specs.declared.words.Draw.{Draw}
@@ -8,7 +8,6 @@ use Rattle.pipeline.specs.Pending.{vote_of}
 use Rattle.pipeline.specs.Pipeline.{parts_of, is_new, hear_new, is_answer, answer_nack, process_one, no_state, Processing, process_at, process_all}
 use Rattle.pipeline.specs.Round.{size_of, facts_of, processing, close_round}
 use Rattle.pipeline.specs.declared.two_pc_pipeline.NodeTwoPcState.{NodeTwoPcState}
-use Rattle.pipeline.specs.declared.two_pc_pipeline.Piggyback.TheVariants.{Absent}
 use Rattle.pipeline.specs.declared.two_pc_pipeline.RoundPacket.{RoundPacket}
 use Rattle.flood.specs.declared.flood.FloodRun.{FloodRun}
 use Rattle.pipeline.specs.declared.prepare.Prepared.{Prepared}
@@ -46,6 +45,6 @@ module _ (ws : List ℕ) where
       (parts_of (size_of conf) i (sets_of (size_of conf) f.network.nodes).sleeping)
       (record {
         states = set p.states i prep.state;
-        carried = record { draw = f.draw; records = prep.records; piggyback = Absent; answers = 0 };
+        carried = record { draw = f.draw; records = prep.records; piggyback = None; answers = 0 };
       })
       ).stays

@@ -1,7 +1,8 @@
 -- A pipeline room holds valid packets only: those within the limits of a text. What is kept from round to round: no
 -- vote word has a mark at or behind the number of positions, no more than 64 transactions were generated, and what is
 -- piggybacked is a number of 64 bits. Assumes nothing.
-use Rattle.std.proofs.Common.{◌≡◌, ℕ, zero, suc, ◌^◌, ◌<◌, ◌≤◌, Bool, true, false, not, ◌&&◌, ◌||◌, eqb, ltb, leb, List, length, get_or, replicate, sym, refl, ◌∙◌, mod-lt, arith, length-set, pow_pos, ltb-false, ltb-true, ne_eqb, eqb-true}
+use Rattle.std.proofs.Common.{◌≡◌, ℕ, zero, suc, ◌^◌, ◌<◌, ◌≤◌, Bool, true, false, not, ◌&&◌, ◌||◌, eqb, ltb, leb, Option, Some, None, List, length, get_or, replicate, sym, refl, ◌∙◌, mod-lt, arith, length-set, pow_pos, ltb-false, ltb-true, ne_eqb, eqb-true}
+use Rattle.std.specs.Option.{unwrap_or}
 use lib.Ieee.{Float}
 use Rattle.loops.specs.Stores.{set_all}
 use Rattle.loops.specs.Pick.{either}
@@ -31,8 +32,7 @@ use Rattle.pipeline.specs.Round.{no_packet, new_part, new_state, deliver_at, del
 use Rattle.pipeline.specs.Round.{preparing, processing, close_round, run_round, start_draw, round_refusal}
 use Rattle.pipeline.specs.Round.{round_answer}
 use Rattle.pipeline.specs.declared.two_pc_pipeline.NodeTwoPcState.{NodeTwoPcState}
-use Rattle.pipeline.specs.declared.two_pc_pipeline.Piggyback.{Piggyback}
-use Rattle.pipeline.specs.declared.two_pc_pipeline.Piggyback.TheVariants.{Absent, Present}
+use Rattle.pipeline.specs.declared.two_pc_pipeline.Outcome.{Outcome}
 use Rattle.pipeline.specs.declared.two_pc_pipeline.RoundPacket.{RoundPacket}
 use Rattle.pipeline.specs.declared.two_pc_pipeline.Records.{Records}
 use Rattle.pipeline.specs.declared.two_pc_pipeline.Txs.{Txs}
@@ -87,16 +87,14 @@ data_valid fresh t =
 -- a transaction below 64, or none
 nack_small : (current : ℕ) (s : NodeTwoPcState) → nack_of current s ≤ 64
 unfolding nack_of gap_of gap_at
-nack_small current s = either_cases (λ x. x ≤ 64) (eqb (gap_of current s) 64) (λ e. omega arith) (λ e. gap)
+nack_small current s = upto_holds (λ g. unwrap_or g 0 ≤ 64) (gap_at known) (at_most64 current) turn None (omega arith)
   where
     known : ℕ
     known = join_marks (logged_of s.log) s.pending
 
-    turn : (t g : ℕ) → t < at_most64 current → g ≤ 64 → gap_at known t g ≤ 64
-    turn t g l h = either_cases (λ x. x ≤ 64) (eqb g 64 && not (has known t)) (λ e. omega arith) (λ e. h)
-
-    gap : gap_of current s ≤ 64
-    gap = upto_holds (λ g. g ≤ 64) (gap_at known) (at_most64 current) turn 64 (omega arith)
+    turn : (t : ℕ) (g : Option ℕ) → t < at_most64 current → unwrap_or g 0 ≤ 64 → unwrap_or (gap_at known t g) 0 ≤ 64
+    turn t None l h = either_cases (λ g. unwrap_or g 0 ≤ 64) (has known t) (λ e. omega arith) (λ e. omega arith)
+    turn t (Some g) l h = h
 
 and_no : (t : Bool) → (t && false) ≡ false
 and_no true = refl
@@ -184,10 +182,10 @@ module _ (n : ℕ) (small : n ≤ 64) where
       (λ e. merge_fits top (with_mark 0 i) s (with_fits 0 i (pow_pos n) l) f)
       (λ e. f)
 
-  take_fits : (b : Piggyback) (s : NodeTwoPcState) → VotesFit s → VotesFit (take_up b s)
+  take_fits : (b : Option Outcome) (s : NodeTwoPcState) → VotesFit s → VotesFit (take_up b s)
   unfolding take_up
-  take_fits Absent s f = f
-  take_fits (Present t o) s f = final_fits t o s f
+  take_fits None s f = f
+  take_fits (Some o) s f = final_fits o.tx o.committed s f
 
   -- ---- the packet
 
@@ -195,7 +193,7 @@ module _ (n : ℕ) (small : n ≤ 64) where
   Valid q = ValidPipeline (packet_of n q)
 
   -- a piggyback says a number of 64 bits
-  abbrev SmallTx : Piggyback → Type 0
+  abbrev SmallTx : Option Outcome → Type 0
   SmallTx b = ValidTx (piggyback_tx b)
 
   valid_by : (q : RoundPacket) → q.tx ≤ 64 → q.bits < 2 ^ n → q.nack ≤ 64 → q.sender ≤ 64 → SmallTx q.piggyback
@@ -228,7 +226,7 @@ module _ (n : ℕ) (small : n ≤ 64) where
   unfolding known_votes
   known_fits s t f = either_cases (λ x. x < 2 ^ n) (has s.pending t) (λ e. f t) (λ e. pow_pos n)
 
-  packet_valid : (i t : ℕ) (fresh : Bool) (nack : ℕ) (pb : Piggyback) (s : NodeTwoPcState) → i < n → t ≤ 64 → nack ≤ 64
+  packet_valid : (i t : ℕ) (fresh : Bool) (nack : ℕ) (pb : Option Outcome) (s : NodeTwoPcState) → i < n → t ≤ 64 → nack ≤ 64
       → SmallTx pb → VotesFit s → Valid (round_packet i t fresh nack pb s)
   unfolding round_packet
   packet_valid i t fresh nack pb s l h k p f =
@@ -262,7 +260,7 @@ module _ (n : ℕ) (small : n ≤ 64) where
     pub packet : Valid x.packet
 
   prepared_well : (ws : List ℕ) (p : Float) (i : ℕ) (facts : RoundFacts) (t : ℕ) (txs : Txs) (records : Records)
-      (pb : Piggyback) (s : NodeTwoPcState) (d : Draw) → i < n → txs.counter ≤ 64 → SmallTx pb → VotesFit s
+      (pb : Option Outcome) (s : NodeTwoPcState) (d : Draw) → i < n → txs.counter ≤ 64 → SmallTx pb → VotesFit s
       → PreparedWell (prepare_round ws p i facts t txs records pb s d)
   unfolding prepare_round
   prepared_well ws p i facts t txs records pb s d l h q f =

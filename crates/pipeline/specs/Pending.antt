@@ -1,6 +1,7 @@
 -- RULES 10.1, 10.6, 10.7, 10.9 and 4.2: what a position knows of transactions. A log is an ordered list
 -- of outcomes, with room for 64, and is only ever added to. Transactions have numbers below 64. Assumes nothing.
-use Rattle.std.specs.Prelude.{ℕ, ◌+◌, ◌-◌, Bool, true, false, not, ◌&&◌, ◌||◌, List, ◌==◌, nat_le, nat_lt, slice_index, slice_index_or, slice_set, Float}
+use Rattle.std.specs.Prelude.{ℕ, ◌+◌, ◌-◌, Bool, true, false, not, ◌&&◌, ◌||◌, Option, Some, None, List, ◌==◌, nat_le, nat_lt, slice_index, slice_index_or, slice_set, Float}
+use Rattle.std.specs.Option.{unwrap_or}
 use Rattle.loops.specs.Pick.{either}
 use Rattle.loops.specs.Upto.{upto}
 use Rattle.loops.specs.Downto.{downto}
@@ -96,16 +97,17 @@ with_abort t s = record { log = s.log; pending = s.pending; aborts = with_mark s
 unfoldable pub merge_abort : ℕ → Bool → NodeTwoPcState → NodeTwoPcState
 merge_abort t abort s = either (abort && has s.pending t) (with_abort t s) s
 
--- `detect_gap`: the lowest transaction below this one that is neither logged nor pending; 64 where there is none.
-unfoldable pub gap_at : ℕ → ℕ → ℕ → ℕ
-gap_at known t g = either (g == 64 && not (has known t)) t g
+-- `detect_gap`: the lowest transaction below this one that is neither logged nor pending.
+unfoldable pub gap_at : ℕ → ℕ → Option ℕ → Option ℕ
+gap_at known t None = either (has known t) None (Some t)
+gap_at known t (Some g) = Some g
 
-unfoldable pub gap_of : ℕ → NodeTwoPcState → ℕ
-gap_of current s = upto (at_most64 current) (gap_at (join_marks (logged_of s.log) s.pending)) 64
+unfoldable pub gap_of : ℕ → NodeTwoPcState → Option ℕ
+gap_of current s = upto (at_most64 current) (gap_at (join_marks (logged_of s.log) s.pending)) None
 
 -- Nack 0 means that nothing is asked for.
 unfoldable pub nack_of : ℕ → NodeTwoPcState → ℕ
-nack_of current s = either (gap_of current s == 64) 0 (gap_of current s)
+nack_of current s = unwrap_or (gap_of current s) 0
 
 -- ---- votes and judgements
 

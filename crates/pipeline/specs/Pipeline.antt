@@ -1,6 +1,6 @@
 -- RULES 10.3, 10.4, 10.5, 10.8, 10.11 and 5.2: what a round says and what is done with it, `prepare_round` and
 -- `process_round`, in their order of steps and draws. Assumes nothing.
-use Rattle.std.specs.Prelude.{Option, Some, None, ℕ, ◌+◌, ◌-◌, ◌/◌, ◌%◌, min, Bool, true, false, not, ◌&&◌, ◌||◌, List, [], ◌∷◌, get_or, replicate, ◌==◌, nat_le, nat_lt, slice_index, slice_index_or, slice_set, Float}
+use Rattle.std.specs.Prelude.{ℕ, ◌+◌, ◌-◌, ◌/◌, ◌%◌, min, Bool, true, false, not, ◌&&◌, ◌||◌, Option, Some, None, List, [], ◌∷◌, get_or, replicate, ◌==◌, nat_le, nat_lt, slice_index, slice_index_or, slice_set, Float}
 use Rattle.std.proofs.lemmas.List.Edits.{sets}
 use Rattle.loops.specs.Pick.{either}
 use Rattle.loops.specs.Upto.{upto}
@@ -17,8 +17,7 @@ use Rattle.engines.specs.declared.words.Draw.{Draw}
 use Rattle.engines.specs.declared.node.Node.{Node}
 use Rattle.pipeline.specs.declared.two_pc_pipeline.NodeTwoPcState.{NodeTwoPcState}
 use Rattle.pipeline.specs.declared.two_pc_pipeline.Vote.{Vote}
-use Rattle.pipeline.specs.declared.two_pc_pipeline.Piggyback.{Piggyback}
-use Rattle.pipeline.specs.declared.two_pc_pipeline.Piggyback.TheVariants.{Absent, Present}
+use Rattle.pipeline.specs.declared.two_pc_pipeline.Outcome.{Outcome}
 use Rattle.pipeline.specs.declared.two_pc_pipeline.RoundPacket.{RoundPacket}
 use Rattle.pipeline.specs.declared.two_pc_pipeline.Records.{Records}
 use Rattle.pipeline.specs.declared.two_pc_pipeline.Txs.{Txs}
@@ -44,13 +43,13 @@ abbrev pub phase_of : Bool → TwoPcPhase
 phase_of true = Committed
 phase_of false = Aborted
 
-abbrev pub piggyback_tx : Piggyback → Option ℕ
-piggyback_tx Absent = None
-piggyback_tx (Present t o) = Some t
+abbrev pub piggyback_tx : Option Outcome → Option ℕ
+piggyback_tx None = None
+piggyback_tx (Some o) = Some o.tx
 
-abbrev pub piggyback_state : Piggyback → Option TwoPcPhase
-piggyback_state Absent = None
-piggyback_state (Present t o) = Some (phase_of o)
+abbrev pub piggyback_state : Option Outcome → Option TwoPcPhase
+piggyback_state None = None
+piggyback_state (Some o) = Some (phase_of o.committed)
 
 -- The packet that a round's packet stands for: always in Prepare, with a bitmap of n entries.
 unfoldable pub packet_of : ℕ → RoundPacket → TwoPcPacket
@@ -71,11 +70,11 @@ packet_of n q =
 abbrev pub same_bool : Bool → Bool → Bool
 same_bool a b = either a b (not b)
 
-abbrev pub same_piggyback : Piggyback → Piggyback → Bool
-same_piggyback Absent Absent = true
-same_piggyback Absent (Present t o) = false
-same_piggyback (Present t o) Absent = false
-same_piggyback (Present t o) (Present u p) = t == u && same_bool o p
+abbrev pub same_piggyback : Option Outcome → Option Outcome → Bool
+same_piggyback None None = true
+same_piggyback None (Some p) = false
+same_piggyback (Some o) None = false
+same_piggyback (Some o) (Some p) = o.tx == p.tx && same_bool o.committed p.committed
 
 unfoldable pub same_packet : RoundPacket → RoundPacket → Bool
 same_packet a b =
@@ -135,7 +134,7 @@ abort_of s t = has s.pending t && has s.aborts t
 unfoldable pub known_votes : NodeTwoPcState → ℕ → ℕ
 known_votes s t = either (has s.pending t) (slice_index s.votes t) 0
 
-unfoldable pub round_packet : ℕ → ℕ → Bool → ℕ → Piggyback → NodeTwoPcState → RoundPacket
+unfoldable pub round_packet : ℕ → ℕ → Bool → ℕ → Option Outcome → NodeTwoPcState → RoundPacket
 round_packet i t fresh nack pb s =
     record {
       tx = t;
@@ -148,7 +147,7 @@ round_packet i t fresh nack pb s =
     }
 
 -- The gap is looked for first, then comes the new transaction, then what is due is judged, then the packet.
-abbrev pub prepared_by : RoundFacts → ℕ → ℕ → Records → Piggyback → Begun → Prepared
+abbrev pub prepared_by : RoundFacts → ℕ → ℕ → Records → Option Outcome → Begun → Prepared
 prepared_by facts i nack records pb b =
     record {
       state = judged facts.n facts.round b.txs.rounds b.state;
@@ -158,7 +157,7 @@ prepared_by facts i nack records pb b =
       draw = b.draw;
     }
 
-unfoldable pub prepare_round : List ℕ → Float → ℕ → RoundFacts → ℕ → Txs → Records → Piggyback → NodeTwoPcState → Draw → Prepared
+unfoldable pub prepare_round : List ℕ → Float → ℕ → RoundFacts → ℕ → Txs → Records → Option Outcome → NodeTwoPcState → Draw → Prepared
 prepare_round ws p i facts t txs records pb s d =
     prepared_by facts i (nack_of txs.counter s) records pb (begin_tx ws p i facts.round facts.slot t txs s d)
 
@@ -186,9 +185,9 @@ unfoldable pub record_aborts : ℕ → ℕ → Records → Records
 record_aborts slot fast b = over_marks fast (record_abort slot) b
 
 -- A piggybacked outcome is entered, if it is not logged.
-unfoldable pub take_up : Piggyback → NodeTwoPcState → NodeTwoPcState
-take_up Absent s = s
-take_up (Present t o) s = finalize_tx t o s
+unfoldable pub take_up : Option Outcome → NodeTwoPcState → NodeTwoPcState
+take_up None s = s
+take_up (Some o) s = finalize_tx o.tx o.committed s
 
 -- Whoever has the outcome that was asked for piggybacks it on the next round; nack 0 asks for nothing.
 unfoldable pub is_answer : ℕ → NodeTwoPcState → Bool
@@ -196,7 +195,7 @@ is_answer nack s = not (nack == 0) && has (logged_of s.log) nack
 
 abbrev pub answered : ℕ → NodeTwoPcState → Carried → Carried
 answered nack s l =
-    record { draw = l.draw; records = l.records; piggyback = Present nack (outcome_of s.log nack); answers = inc l.answers }
+    record { draw = l.draw; records = l.records; piggyback = Some (record { tx = nack; committed = outcome_of s.log nack }); answers = inc l.answers }
 
 unfoldable pub answer_nack : ℕ → NodeTwoPcState → Carried → Carried
 answer_nack nack s l = either (is_answer nack s) (answered nack s l) l

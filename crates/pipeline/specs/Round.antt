@@ -1,6 +1,6 @@
 -- RULES 10.2, 10.4, 10.10, 10.11 and 7.6, and refusals 2 and 14 to 17 of RULES 15: one pipeline round. Assumes
 -- nothing.
-use Rattle.std.specs.Prelude.{◌≡◌, ℕ, ◌+◌, ◌*◌, ◌/◌, ◌%◌, ◌^◌, Bool, false, ◌&&◌, ◌||◌, List, length, replicate, ◌==◌, nat_le, nat_lt, slice_index_or, slice_set}
+use Rattle.std.specs.Prelude.{◌≡◌, ℕ, ◌+◌, ◌*◌, ◌/◌, ◌%◌, ◌^◌, Bool, false, ◌&&◌, ◌||◌, None, List, length, replicate, ◌==◌, nat_le, nat_lt, slice_index_or, slice_set}
 use Rattle.std.proofs.lemmas.List.Edits.{sets}
 use mir.Val.{bool_byte}
 use Rattle.loops.specs.Pick.{either}
@@ -23,7 +23,6 @@ use Rattle.engines.specs.declared.network.Network.{Network}
 use Rattle.flood.specs.declared.flood.FloodRun.{FloodRun}
 use Rattle.pipeline.specs.declared.two_pc_pipeline.TxLog.{TxLog}
 use Rattle.pipeline.specs.declared.two_pc_pipeline.NodeTwoPcState.{NodeTwoPcState}
-use Rattle.pipeline.specs.declared.two_pc_pipeline.Piggyback.TheVariants.{Absent}
 use Rattle.pipeline.specs.declared.two_pc_pipeline.RoundPacket.{RoundPacket}
 use Rattle.pipeline.specs.declared.prepare.Prepared.{Prepared}
 use Rattle.pipeline.specs.declared.process.RoundFacts.{RoundFacts}
@@ -35,7 +34,7 @@ use Rattle.pipeline.specs.declared.pipeline.PipelineAnswer.{PipelineAnswer}
 -- ---- who holds what
 
 abbrev pub no_packet : RoundPacket
-no_packet = record { tx = 0; bits = 0; abort = false; nack = 0; fresh = false; sender = 0; piggyback = Absent }
+no_packet = record { tx = 0; bits = 0; abort = false; nack = 0; fresh = false; sender = 0; piggyback = None }
 
 -- ---- a room as opened
 
@@ -53,7 +52,7 @@ new_part =
       stop = false;
       states = replicate 64 new_state;
       txs = record { counter = 0; starts = replicate 64 0; rounds = replicate 64 0 };
-      piggyback = Absent;
+      piggyback = None;
       records = record { log = new_log; ends = replicate 64 0 };
       payloads = replicate 64 no_packet;
       holding = 0;
@@ -174,7 +173,7 @@ processing ws conf p i prep f parts =
     prep.packet parts
     (record {
       states = slice_set p.states i prep.state;
-      carried = record { draw = f.draw; records = prep.records; piggyback = Absent; answers = 0 };
+      carried = record { draw = f.draw; records = prep.records; piggyback = None; answers = 0 };
     })
 
 -- The flood is over: its packet is delivered, and whoever takes part processes it.

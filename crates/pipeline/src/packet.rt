@@ -1,9 +1,8 @@
-// RULES 5.2 and 10.10. A round's packet: the TwoPcPacket that it stands for, and whether two are the same.
-ghost use Rattle.std.specs.Prelude.{◌≡◌, ◌&&◌, ◌==◌};
-ghost use Rattle.pipeline.specs.Pipeline.{data_of, phase_of, piggyback_tx, piggyback_state, packet_of, same_bool, same_piggyback, same_packet};
-ghost use Rattle.pipeline.specs.declared.two_pc_pipeline.Piggyback.TheVariants.{Absent, Present};
+// RULES 5.2. A round's packet: the TwoPcPacket that it stands for.
+ghost use Rattle.std.specs.Prelude.{◌≡◌};
+ghost use Rattle.pipeline.specs.Pipeline.{data_of, phase_of, piggyback_tx, piggyback_state, packet_of};
 
-use super::two_pc_pipeline::{Piggyback, RoundPacket};
+use super::two_pc_pipeline::{Outcome, RoundPacket};
 use packets::{Bitmap, Data, TwoPcPacket, TwoPcPhase};
 
 // The letters t and x, and the number.
@@ -34,21 +33,21 @@ fn phase(committed: bool) -> TwoPcPhase
     TwoPcPhase::Aborted
 }
 
-fn piggyback_tx(p: Piggyback) -> Option<u64>
+fn piggyback_tx(p: Option<Outcome>) -> Option<u64>
     ensures { result ≡ piggyback_tx p }
 {
     match p {
-        Piggyback::Absent => None,
-        Piggyback::Present(t, committed) => Some(t as u64),
+        None => None,
+        Some(o) => Some(o.tx as u64),
     }
 }
 
-fn piggyback_state(p: Piggyback) -> Option<TwoPcPhase>
+fn piggyback_state(p: Option<Outcome>) -> Option<TwoPcPhase>
     ensures { result ≡ piggyback_state p }
 {
     match p {
-        Piggyback::Absent => None,
-        Piggyback::Present(t, committed) => Some(phase(committed)),
+        None => None,
+        Some(o) => Some(phase(o.committed)),
     }
 }
 
@@ -74,73 +73,4 @@ pub fn full_packet(n: usize, q: RoundPacket) -> TwoPcPacket
         piggyback_tx: tx,
         piggyback_state: state,
     }
-}
-
-fn same_bool(a: bool, b: bool) -> bool
-    ensures { result ≡ same_bool a b }
-{
-    if a { b } else { !b }
-}
-
-fn same_outcome(t: usize, o: bool, u: usize, p: bool) -> bool
-    ensures { result ≡ (t == u && same_bool o p) }
-{
-    if t != u {
-        return false;
-    }
-    same_bool(o, p)
-}
-
-fn same_as(t: usize, o: bool, b: Piggyback) -> bool
-    ensures { result ≡ same_piggyback (Present t o) b }
-{
-    match b {
-        Piggyback::Absent => false,
-        Piggyback::Present(u, p) => same_outcome(t, o, u, p),
-    }
-}
-
-fn is_absent(b: Piggyback) -> bool
-    ensures { result ≡ same_piggyback Absent b }
-{
-    match b {
-        Piggyback::Absent => true,
-        Piggyback::Present(u, p) => false,
-    }
-}
-
-fn same_piggyback(a: Piggyback, b: Piggyback) -> bool
-    ensures { result ≡ same_piggyback a b }
-{
-    match a {
-        Piggyback::Absent => is_absent(b),
-        Piggyback::Present(t, o) => same_as(t, o, b),
-    }
-}
-
-// All that the two say is the same.
-pub fn same_packet(a: RoundPacket, b: RoundPacket) -> bool
-    ensures { result ≡ same_packet a b }
-{
-    if a.tx != b.tx {
-        return false;
-    }
-    if a.bits != b.bits {
-        return false;
-    }
-    if !same_bool(a.abort, b.abort) {
-        return false;
-    }
-    if a.nack != b.nack {
-        return false;
-    }
-    if !same_bool(a.fresh, b.fresh) {
-        return false;
-    }
-    if a.sender != b.sender {
-        return false;
-    }
-    let p = a.piggyback;
-    let q = b.piggyback;
-    same_piggyback(p, q)
 }

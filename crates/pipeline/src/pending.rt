@@ -3,7 +3,7 @@ ghost use Rattle.std.specs.Prelude.{◌≡◌, ℕ, ◌<◌, ◌&&◌, ◌||◌,
 ghost use Rattle.loops.specs.Pick.{either};
 ghost use Rattle.marks.specs.Marks.{has};
 ghost use Rattle.engines.specs.Marked.{over_marks, with_mark};
-ghost use Rattle.pipeline.specs.Pending.{join_marks, common_marks, without_mark, finalize_tx, unanimous_of, open_tx, votes_at, merge_votes, merge_abort, gap_at, gap_of, nack_of, vote_of, is_judged, ripe_of, settle_at, judged, fast_of, abort_all, own_vote};
+ghost use Rattle.pipeline.specs.Pending.{join_marks, common_marks, without_mark, finalize_tx, unanimous_of, open_tx, votes_at, merge_votes, merge_abort, gap_of, nack_of, vote_of, is_judged, ripe_of, settle_at, judged, fast_of, abort_all, own_vote};
 
 use super::logs;
 use super::two_pc_pipeline::{NodeTwoPcState, Vote};
@@ -37,23 +37,22 @@ pub fn common(a: u64, b: u64) -> u64
 }
 
 // A transaction leaves what is pending for the log, unless the log has it.
+#[tactic(auto, unfolding(crate::specs::Pending::finalize_tx))]
 pub fn finalize_tx(s: NodeTwoPcState, t: usize, committed: bool) -> NodeTwoPcState
     ensures { result ≡ finalize_tx t committed s }
 {
-    let g = s.log;
-    if sets::is_marked(logs::logged(g), t) {
+    if sets::is_marked(logs::logged(s.log), t) {
         return s;
     }
-    let votes = s.votes;
     NodeTwoPcState {
-        log: logs::push(g, t, committed),
+        log: logs::push(s.log, t, committed),
         pending: without(s.pending, t),
-        aborts: s.aborts,
-        votes,
+        ..s
     }
 }
 
 // Everybody has voted yes, and nobody no. A number of 64 or more is never pending.
+#[tactic(auto, unfolding(crate::specs::Pending::unanimous_of))]
 pub fn check_unanimity(n: usize, s: NodeTwoPcState, t: usize) -> bool
     ensures { result ≡ unanimous_of n s t }
 {
@@ -66,45 +65,41 @@ pub fn check_unanimity(n: usize, s: NodeTwoPcState, t: usize) -> bool
     if sets::is_marked(s.aborts, t) {
         return false;
     }
-    let votes = s.votes;
-    sets::all_marked(votes[t], n)
+    sets::all_marked(s.votes[t], n)
 }
 
 fn mark_or_not(m: u64, i: usize, yes: bool) -> u64
     ensures { result ≡ either yes (with_mark m i) (without_mark m i) }
 {
-    if yes {
-        return with(m, i);
-    }
-    without(m, i)
+    if yes { with(m, i) } else { without(m, i) }
 }
 
 // A transaction becomes pending. A number of 64 or more is none.
+#[tactic(auto, unfolding(crate::specs::Pending::open_tx))]
 pub fn open_tx(s: NodeTwoPcState, t: usize, bits: u64, abort: bool) -> NodeTwoPcState
     ensures { result ≡ open_tx t bits abort s }
 {
     if t >= 64 {
         return s;
     }
-    let log = s.log;
     let mut votes = s.votes;
     votes[t] = bits;
     NodeTwoPcState {
-        log,
         pending: with(s.pending, t),
         aborts: mark_or_not(s.aborts, t, abort),
         votes,
+        ..s
     }
 }
 
+#[tactic(auto, unfolding(crate::specs::Pending::votes_at))]
 fn join_at(votes: &mut [u64; 64], t: usize, top: usize, bits: u64)
     requires { t < 64 }
     ensures { votes.new ≡ votes_at top bits t votes.old }
 {
-    if t > top {
-        return;
+    if t <= top {
+        votes[t] = join(votes[t], bits);
     }
-    votes[t] = join(votes[t], bits);
 }
 
 fn join_up_to(votes: &mut [u64; 64], pending: u64, top: usize, bits: u64)
@@ -119,150 +114,114 @@ fn join_up_to(votes: &mut [u64; 64], pending: u64, top: usize, bits: u64)
 }
 
 // Yes votes go to all that is pending up to the packet's transaction.
+#[tactic(auto, unfolding(crate::specs::Pending::merge_votes))]
 pub fn merge_votes_up_to(s: NodeTwoPcState, top: usize, bits: u64) -> NodeTwoPcState
     ensures { result ≡ merge_votes top bits s }
 {
-    let log = s.log;
     let mut votes = s.votes;
     join_up_to(&mut votes, s.pending, top, bits);
-    NodeTwoPcState {
-        log,
-        pending: s.pending,
-        aborts: s.aborts,
-        votes,
-    }
+    NodeTwoPcState { votes, ..s }
 }
 
 // An abort goes to the packet's transaction only.
+#[tactic(auto, unfolding(crate::specs::Pending::merge_abort))]
 pub fn merge_abort(s: NodeTwoPcState, t: usize, abort: bool) -> NodeTwoPcState
     ensures { result ≡ merge_abort t abort s }
 {
-    if !abort {
+    if !abort || !sets::is_marked(s.pending, t) {
         return s;
     }
-    if !sets::is_marked(s.pending, t) {
-        return s;
-    }
-    let log = s.log;
-    let votes = s.votes;
     NodeTwoPcState {
-        log,
-        pending: s.pending,
         aborts: with(s.aborts, t),
-        votes,
+        ..s
     }
 }
 
 // The own yes, unless the transaction is not pending or has an abort.
+#[tactic(auto, unfolding(crate::specs::Pending::own_vote))]
 pub fn own_vote(s: NodeTwoPcState, i: usize, top: usize) -> NodeTwoPcState
     ensures { result ≡ own_vote i top s }
 {
-    if !sets::is_marked(s.pending, top) {
-        return s;
-    }
-    if sets::is_marked(s.aborts, top) {
+    if !sets::is_marked(s.pending, top) || sets::is_marked(s.aborts, top) {
         return s;
     }
     merge_votes_up_to(s, top, with(0, i))
 }
 
-fn gap_at(known: u64, t: usize, g: usize) -> usize
-    ensures { result ≡ gap_at known t g }
-{
-    if g != 64 {
-        return g;
-    }
-    if sets::is_marked(known, t) {
-        return g;
-    }
-    t
-}
-
-// The lowest transaction below this one that is neither logged nor pending; 64 where there is none.
-pub fn detect_gap(s: NodeTwoPcState, current: usize) -> usize
+// The lowest transaction below this one that is neither logged nor pending.
+#[tactic(auto, using(loops::specs::Upto::upto_none, crate::proofs::Finding::gap_more, crate::proofs::Finding::gap_found, crate::proofs::Finding::gap_none))]
+pub fn detect_gap(s: NodeTwoPcState, current: usize) -> Option<usize>
     ensures { result ≡ gap_of current s }
 {
-    let log = s.log;
-    let known = join(logs::logged(log), s.pending);
-    let count = clamp::at_most_64(current);
-    let mut g: usize = 64;
-    let mut t: usize = 0;
-    while t < count {
-        g = gap_at(known, t, g);
-        t += 1;
+    let known = join(logs::logged(s.log), s.pending);
+    for t in 0..clamp::at_most_64(current) {
+        if !sets::is_marked(known, t) {
+            return Some(t);
+        }
     }
-    g
+    None
 }
 
 // What a packet asks for: nothing where there is no gap, and nothing where the gap is transaction 0.
+#[tactic(auto, unfolding(crate::specs::Pending::nack_of))]
 pub fn nack(s: NodeTwoPcState, current: usize) -> usize
     ensures { result ≡ nack_of current s }
 {
-    let g = detect_gap(s, current);
-    if g == 64 {
-        return 0;
-    }
-    g
+    detect_gap(s, current).unwrap_or(0)
 }
 
 // The own vote on a new transaction. One word is drawn even if no unit lies below the probability.
+#[tactic(auto, unfolding(crate::specs::Pending::vote_of))]
 pub fn vote(words: &[u64], p: f64, i: usize, bits: u64, abort: bool, d: Draw) -> Vote
     ensures { result ≡ vote_of words.now p i bits abort d }
 {
     let x = words::next(words, d);
-    let e = x.draw;
     if words::lost(x.word, p) {
         return Vote {
             bits,
             abort: true,
-            draw: e,
+            draw: x.draw,
         };
     }
     Vote {
         bits: with(bits, i),
         abort,
-        draw: e,
+        draw: x.draw,
     }
 }
 
 // n rounds have passed since the start. Written so that no sum can wrap.
+#[tactic(auto, unfolding(crate::specs::Pending::is_judged))]
 pub fn is_judged(n: usize, r: u64, start: u64) -> bool
     ensures { result ≡ is_judged n r start }
 {
     let rounds = n as u64;
-    if r < rounds {
-        return false;
-    }
-    if start <= r - rounds { true } else { false }
+    rounds <= r && start <= r - rounds
 }
 
 fn mark_if(m: u64, t: usize, yes: bool) -> u64
     ensures { (k : ℕ) → has result k ≡ (has m k || (yes && (nat_lt k 64 && k == t))) }
 {
-    if yes {
-        return sets::with_mark(m, t);
-    }
-    m
+    if yes { sets::with_mark(m, t) } else { m }
 }
 
 // The transactions for which n rounds have passed, pending or not.
+#[tactic(auto, using(marks::specs::Sets::grown_none, marks::specs::Sets::grown_turn))]
 fn ripe(n: usize, r: u64, rounds: &[u64; 64]) -> u64
     ensures { result ≡ ripe_of n r rounds.now }
 {
     let mut m: u64 = 0;
-    let mut t: usize = 0;
-    while t < 64 {
+    for t in 0..64 {
         m = mark_if(m, t, is_judged(n, r, rounds[t]));
-        t += 1;
     }
     m
 }
 
+#[tactic(auto, unfolding(crate::specs::Pending::settle_at))]
 fn judge_at(n: usize, t: usize, s: NodeTwoPcState) -> NodeTwoPcState
     ensures { result ≡ settle_at n t s }
 {
-    let committed = check_unanimity(n, s, t);
-    finalize_tx(s, t, committed)
+    finalize_tx(s, t, check_unanimity(n, s, t))
 }
 
 // These are judged, the lowest first.
@@ -281,6 +240,7 @@ fn judge_all(n: usize, due: u64, s: NodeTwoPcState) -> NodeTwoPcState
 
 // What is pending is judged. Which of it is due is found first, by numbers alone: a state is copied only where it
 // changes.
+#[tactic(auto, using(crate::proofs::Judging::judged_due))]
 pub fn judge(n: usize, r: u64, rounds: &[u64; 64], s: NodeTwoPcState) -> NodeTwoPcState
     ensures { result ≡ judged n r rounds.now s }
 {
@@ -289,6 +249,7 @@ pub fn judge(n: usize, r: u64, rounds: &[u64; 64], s: NodeTwoPcState) -> NodeTwo
 }
 
 // What is pending and has an abort.
+#[tactic(auto, unfolding(crate::specs::Pending::fast_of))]
 pub fn fast_aborts(s: NodeTwoPcState) -> u64
     ensures { result ≡ fast_of s }
 {

@@ -1,20 +1,17 @@
 // RULES 10.2, 10.4 and 10.11. One round of a pipeline room, from sim/pipeline.rs: prepare, flood, process. A round
 // that is refused changes nothing.
-ghost use Rattle.std.specs.Prelude.{◌≡◌, ◌+◌, ◌*◌, ◌%◌, ◌<◌, ◌≤◌, ◌&&◌, length, nat_lt};
+ghost use Rattle.std.specs.Prelude.{◌≡◌, ◌+◌, ◌*◌, ◌%◌, ◌<◌, ◌≤◌, length, nat_lt};
 ghost use Rattle.std.proofs.lemmas.List.Edits.{sets};
 ghost use mir.Val.{bool_byte};
 ghost use Rattle.loops.specs.Pick.{either};
 ghost use Rattle.limits.specs.Limits.{row_cells};
 ghost use Rattle.engines.specs.Nodes.{inc};
 ghost use Rattle.engines.specs.Rounds.{placed};
-ghost use Rattle.pipeline.specs.Pipeline.{same_packet};
 ghost use Rattle.pipeline.specs.Round.{new_part, deliver_all, covered_of, preparing, bytes_of, flood_from, counted_in, processing, close_round, RoundSurveyed, rows_of_round, early_refusal, round_answer, round_buffer, refused_with};
 
 use super::prepare::Prepared;
 use super::process::{AllProcessed, Carried, RoundFacts};
-use super::two_pc_pipeline::{
-    LogEntry, NodeTwoPcState, Piggyback, Records, RoundPacket, TxLog, Txs,
-};
+use super::two_pc_pipeline::{LogEntry, NodeTwoPcState, Outcome, Records, RoundPacket, TxLog, Txs};
 use super::{packet, pending, prepare, process};
 use engines::metrics::MetricsCollector;
 use engines::network::{Network, RoundConf};
@@ -42,7 +39,7 @@ pub struct PipelinePart {
     pub stop: bool,
     pub states: [NodeTwoPcState; 64],
     pub txs: Txs,
-    pub piggyback: Piggyback,
+    pub piggyback: Option<Outcome>,
     pub records: Records,
     pub payloads: [RoundPacket; 64],
     pub holding: u64,
@@ -75,45 +72,45 @@ pub struct PipelineAnswer {
 
 impl PipelinePart {
     // As a room is opened: logs empty, no transaction generated, and nobody holds a packet.
+    #[tactic(auto, unfolding(crate::specs::Round::new_part))]
     pub fn new() -> PipelinePart
         ensures { result ≡ new_part }
     {
-        let e = LogEntry {
+        let none = LogEntry {
             tx: 0,
             committed: false,
         };
-        let entries = [e; 64];
-        let log = TxLog { len: 0, entries };
-        let zeros = [0u64; 64];
-        let s = NodeTwoPcState {
+        let log = TxLog {
+            len: 0,
+            entries: [none; 64],
+        };
+        let state = NodeTwoPcState {
             log,
             pending: 0,
             aborts: 0,
-            votes: zeros,
+            votes: [0; 64],
         };
-        let q = RoundPacket {
+        let packet = RoundPacket {
             tx: 0,
             bits: 0,
             abort: false,
             nack: 0,
             fresh: false,
             sender: 0,
-            piggyback: Piggyback::Absent,
+            piggyback: None,
         };
-        let states = [s; 64];
-        let payloads = [q; 64];
         PipelinePart {
             round: 0,
             stop: false,
-            states,
+            states: [state; 64],
             txs: Txs {
                 counter: 0,
-                starts: zeros,
-                rounds: zeros,
+                starts: [0; 64],
+                rounds: [0; 64],
             },
-            piggyback: Piggyback::Absent,
-            records: Records { log, ends: zeros },
-            payloads,
+            piggyback: None,
+            records: Records { log, ends: [0; 64] },
+            payloads: [packet; 64],
             holding: 0,
         }
     }
@@ -133,38 +130,18 @@ fn deliver_all(payloads: [RoundPacket; 64], q: RoundPacket, parts: u64) -> [Roun
     ps
 }
 
-fn is_covered(q: RoundPacket, held: RoundPacket, holds: bool) -> bool
-    ensures { result ≡ (holds && same_packet held q) }
-{
-    if !holds {
-        return false;
-    }
-    packet::same_packet(held, q)
-}
-
-fn one_more(k: u64, yes: bool) -> u64
-    ensures { result ≡ either yes (inc k) k }
-{
-    if yes {
-        return std::num::wrapping_add_u64(k, 1);
-    }
-    k
-}
-
 // How many of the first n hold this packet.
+#[tactic(auto, using(crate::proofs::Turns::turns), unfolding(crate::specs::Round::covered_of))]
 fn count_covered(q: RoundPacket, n: usize, holding: u64, payloads: [RoundPacket; 64]) -> u64
     ensures { result ≡ covered_of q n holding payloads }
 {
-    let count = clamp::at_most_64(n);
-    let mut k: u64 = 0;
-    let mut i: usize = 0;
-    while i < count {
-        let held = payloads[i];
-        let holds = sets::is_marked(holding, i);
-        k = one_more(k, is_covered(q, held, holds));
-        i += 1;
+    let mut covered: u64 = 0;
+    for i in 0..clamp::at_most_64(n) {
+        if sets::is_marked(holding, i) && payloads[i] == q {
+            covered = covered.wrapping_add(1);
+        }
     }
-    k
+    covered
 }
 
 fn initiator(round: u64, n: usize) -> usize
@@ -175,6 +152,7 @@ fn initiator(round: u64, n: usize) -> usize
 }
 
 // The length of the text that every flooder sends.
+#[tactic(auto, unfolding(crate::specs::Round::bytes_of))]
 fn packet_bytes(conf: PipelineConf, q: RoundPacket) -> u64
     ensures { result ≡ bytes_of conf q }
 {
@@ -182,16 +160,16 @@ fn packet_bytes(conf: PipelineConf, q: RoundPacket) -> u64
     two_pc_pipeline::pipeline_text_len(full) as u64
 }
 
+#[tactic(auto, unfolding(crate::specs::Round::flood_from))]
 fn flood_from(conf: PipelineConf, w: Network, i: usize, d: Draw) -> FloodRun
     ensures { result ≡ flood_from conf w i d }
 {
-    let at = w.nodes;
     let repeats = conf.round.settings.flood_repeats;
-    let nodes = flood::flood::start_flood(at, conf.round.graph.n, i, repeats);
-    let mut network = w;
-    network.nodes = nodes;
     FloodRun {
-        network,
+        network: Network {
+            nodes: flood::flood::start_flood(w.nodes, conf.round.graph.n, i, repeats),
+            ..w
+        },
         draw: d,
         over: false,
     }
@@ -208,14 +186,12 @@ fn count_round(
     ensures { result ≡ counted_in m (bool_byte (nat_lt 0 nack)) answers n covered }
 {
     MetricsCollector {
-        nacks_sent: std::num::wrapping_add_u64(m.nacks_sent, (0 < nack) as u64),
-        piggybacks_sent: std::num::wrapping_add_u64(m.piggybacks_sent, answers),
-        ce_timeouts: m.ce_timeouts,
-        rx_attempts: m.rx_attempts,
-        rx_success: m.rx_success,
-        flood_rounds: std::num::wrapping_add_u64(m.flood_rounds, 1),
-        flood_nodes_total: std::num::wrapping_add_u64(m.flood_nodes_total, n as u64),
-        flood_nodes_covered: std::num::wrapping_add_u64(m.flood_nodes_covered, covered),
+        nacks_sent: m.nacks_sent.wrapping_add((0 < nack) as u64),
+        piggybacks_sent: m.piggybacks_sent.wrapping_add(answers),
+        flood_rounds: m.flood_rounds.wrapping_add(1),
+        flood_nodes_total: m.flood_nodes_total.wrapping_add(n as u64),
+        flood_nodes_covered: m.flood_nodes_covered.wrapping_add(covered),
+        ..m
     }
 }
 
@@ -223,13 +199,11 @@ fn count_round(
 fn next_round(stop: bool, round: u64) -> u64
     ensures { result ≡ either stop round (inc round) }
 {
-    if stop {
-        return round;
-    }
-    std::num::wrapping_add_u64(round, 1)
+    if stop { round } else { round.wrapping_add(1) }
 }
 
 // What the initiator does before the flood.
+#[tactic(auto, unfolding(crate::specs::Round::preparing))]
 fn prepare_at(
     words: &[u64],
     conf: PipelineConf,
@@ -246,26 +220,22 @@ fn prepare_at(
         round: p.round,
         slot,
     };
-    let states = p.states;
-    let own = states[i];
-    let txs = p.txs;
-    let records = p.records;
-    let piggyback = p.piggyback;
     prepare::prepare_round(
         words,
         conf.round.settings.abort_probability,
         i,
         facts,
         conf.transactions,
-        txs,
-        records,
-        piggyback,
-        own,
+        p.txs,
+        p.records,
+        p.piggyback,
+        p.states[i],
         d,
     )
 }
 
 // Whoever takes part processes the packet; the initiator's own state is as it was prepared.
+#[tactic(auto, unfolding(crate::specs::Round::processing))]
 fn process_at(
     words: &[u64],
     conf: PipelineConf,
@@ -284,21 +254,24 @@ fn process_at(
         slot: f.network.slot,
     };
     let mut states = p.states;
-    let own = prep.state;
-    states[i] = own;
-    let draw = f.draw;
-    let records = prep.records;
-    let l = Carried {
-        draw,
-        records,
-        piggyback: Piggyback::Absent,
+    states[i] = prep.state;
+    let start = Carried {
+        draw: f.draw,
+        records: prep.records,
+        piggyback: None,
         answers: 0,
     };
-    let txs = prep.txs;
-    let rounds = txs.rounds;
-    let q = prep.packet;
     let abort = conf.round.settings.abort_probability;
-    process::process_all(words, abort, facts, &rounds, q, parts, states, l)
+    process::process_all(
+        words,
+        abort,
+        facts,
+        &prep.txs.rounds,
+        prep.packet,
+        parts,
+        states,
+        start,
+    )
 }
 
 // Behind the flood: the packet is delivered, whoever takes part processes it, and the room sees how far everybody is.
@@ -314,43 +287,38 @@ fn close_round(
     ensures { result ≡ close_round words.now conf p i prep f }
 {
     let n = conf.round.graph.n;
-    let mut network = f.network;
-    let flooded = network.nodes;
-    let s = node::state_sets(flooded, n);
+    let w = f.network;
+    let s = node::state_sets(w.nodes, n);
     let parts = process::parts(n, i, s.sleeping);
     let q = prep.packet;
-    let old = p.payloads;
-    let payloads = deliver_all(old, q, parts);
+    let payloads = deliver_all(p.payloads, q, parts);
     let holding = pending::join(p.holding, parts);
     let covered = count_covered(q, n, holding, payloads);
     let g = process_at(words, conf, p, i, prep, f, parts);
     let states = g.states;
-    let l = g.carried;
     let done = process::shortest_log(states, n);
-    let nodes = process::progress_all(flooded, n, conf.transactions, done, states);
-    let txs = prep.txs;
-    let stop = process::stops(conf.transactions, done, txs.counter, p.round);
-    let metrics = count_round(network.metrics, q.nack, l.answers, n, covered);
-    network.nodes = nodes;
-    network.metrics = metrics;
-    let piggyback = l.piggyback;
-    let records = l.records;
-    let draw = l.draw;
+    let stop = process::stops(conf.transactions, done, prep.txs.counter, p.round);
+    let nodes = process::progress_all(w.nodes, n, conf.transactions, done, states);
+    let metrics = count_round(w.metrics, q.nack, g.carried.answers, n, covered);
     let round = next_round(stop, p.round);
     let part = PipelinePart {
         round,
         stop,
         states,
-        txs,
-        piggyback,
-        records,
+        txs: prep.txs,
+        piggyback: g.carried.piggyback,
+        records: g.carried.records,
         payloads,
         holding,
     };
     RoundRun {
-        network,
+        network: Network {
+            nodes,
+            metrics,
+            ..w
+        },
         part,
-        draw,
+        draw: g.carried.draw,
     }
 }
 
@@ -361,10 +329,8 @@ fn run_round(words: &[u64], conf: PipelineConf, w: Network, p: PipelinePart, d: 
 {
     let i = initiator(p.round, conf.round.graph.n);
     let prep = prepare_at(words, conf, w.slot, p, i, d);
-    let q = prep.packet;
-    let e = prep.draw;
-    let bytes = packet_bytes(conf, q);
-    let start = flood_from(conf, w, i, e);
+    let bytes = packet_bytes(conf, prep.packet);
+    let start = flood_from(conf, w, i, prep.draw);
     let f = flood::flood::flood_identical_round(words, conf.round, bytes, start);
     if f.short {
         let draw = Draw {
@@ -378,8 +344,7 @@ fn run_round(words: &[u64], conf: PipelineConf, w: Network, p: PipelinePart, d: 
         };
         return RoundSurvey { run, due: 0 };
     }
-    let flooded = f.run;
-    let run = close_round(words, conf, p, i, prep, flooded);
+    let run = close_round(words, conf, p, i, prep, f.run);
     RoundSurvey { run, due: f.due }
 }
 
@@ -397,27 +362,20 @@ fn write_round(
 {
     let i = initiator(p.round, conf.round.graph.n);
     let prep = prepare_at(words, conf, w.slot, p, i, d);
-    let q = prep.packet;
-    let e = prep.draw;
-    let bytes = packet_bytes(conf, q);
-    let start = flood_from(conf, w, i, e);
+    let bytes = packet_bytes(conf, prep.packet);
+    let start = flood_from(conf, w, i, prep.draw);
     flood::flood::write_rows(words, conf.round, bytes, part, start);
 }
 
 // Refusals 2, 14 and 15, for which the round need not be run.
+#[tactic(auto, unfolding(crate::specs::Round::early_refusal))]
 pub fn early_refusal(conf: PipelineConf, slot: u64, stop: bool) -> u64
     ensures { result ≡ early_refusal conf slot stop }
 {
-    if conf.round.graph.n == 0 {
+    if conf.round.graph.n == 0 || conf.round.graph.n > limits::POSITIONS {
         return refusals::BAD_POSITIONS;
     }
-    if conf.round.graph.n > limits::POSITIONS {
-        return refusals::BAD_POSITIONS;
-    }
-    if stop {
-        return refusals::STOPPED;
-    }
-    if conf.bound <= slot {
+    if stop || conf.bound <= slot {
         return refusals::STOPPED;
     }
     network::long_refusal(conf.round, slot)
@@ -488,13 +446,11 @@ pub fn pipeline_round(
     }
     let due = x.due as usize;
     write_due(words, conf, w, p, d, rows, used, due);
-    let network = run.network;
-    let part = run.part;
     PipelineAnswer {
         refusal: 0,
         cursor: run.draw.at,
         used: used + due,
-        network,
-        part,
+        network: run.network,
+        part: run.part,
     }
 }

@@ -1,13 +1,13 @@
 // RULES 10.3. prepare_round of sim/two_pc_pipeline.rs: what the initiator does before the flood, and the packet that
 // it floods.
-ghost use Rattle.std.specs.Prelude.{◌≡◌, ◌-◌, ◌<◌, false};
+ghost use Rattle.std.specs.Prelude.{◌≡◌, ◌<◌, false};
 ghost use Rattle.loops.specs.Pick.{either};
 ghost use Rattle.engines.specs.Marked.{with_mark};
 ghost use Rattle.pipeline.specs.Pending.{vote_of};
 ghost use Rattle.pipeline.specs.Pipeline.{record_tx, old_tx, new_tx, begin_tx, record_due, record_judged, abort_of, known_votes, round_packet, prepare_round};
 
 use super::process::RoundFacts;
-use super::two_pc_pipeline::{NodeTwoPcState, Piggyback, Records, RoundPacket, Txs};
+use super::two_pc_pipeline::{NodeTwoPcState, Outcome, Records, RoundPacket, Txs};
 use super::{logs, pending};
 use engines::words::Draw;
 use graph::sets;
@@ -33,40 +33,30 @@ pub struct Prepared {
 }
 
 // The outcome of a transaction, unless one is recorded already. A number of 64 or more enters nothing.
+#[tactic(auto, using(crate::proofs::Recorded::recorded_out), unfolding(crate::specs::Pipeline::record_tx))]
 pub fn record_tx(b: Records, t: usize, committed: bool, slot: u64) -> Records
     ensures { result ≡ record_tx t committed slot b }
 {
-    if t >= 64 {
-        return b;
-    }
-    let g = b.log;
-    if sets::is_marked(logs::logged(g), t) {
+    if t >= 64 || sets::is_marked(logs::logged(b.log), t) {
         return b;
     }
     let mut ends = b.ends;
     ends[t] = slot;
     Records {
-        log: logs::push(g, t, committed),
+        log: logs::push(b.log, t, committed),
         ends,
     }
-}
-
-fn last_tx(counter: usize) -> usize
-    ensures { result ≡ counter - 1 }
-{
-    if counter == 0 { 0 } else { counter - 1 }
 }
 
 // The last transaction once more, without data.
 fn old_tx(txs: Txs, s: NodeTwoPcState, d: Draw) -> Begun
     ensures { result ≡ old_tx txs s d }
 {
-    let tx = last_tx(txs.counter);
     Begun {
         state: s,
         txs,
         fresh: false,
-        tx,
+        tx: txs.counter.saturating_sub(1),
         draw: d,
     }
 }
@@ -90,7 +80,6 @@ fn new_tx(
     starts[t] = facts.slot;
     let mut rounds = txs.rounds;
     rounds[t] = facts.round;
-    let e = v.draw;
     Begun {
         state: pending::open_tx(s, t, v.bits, v.abort),
         txs: Txs {
@@ -100,10 +89,11 @@ fn new_tx(
         },
         fresh: true,
         tx: t,
-        draw: e,
+        draw: v.draw,
     }
 }
 
+#[tactic(auto, unfolding(crate::specs::Pipeline::begin_tx, crate::specs::Pipeline::is_fresh))]
 fn begin_tx(
     words: &[u64],
     p: f64,
@@ -116,15 +106,13 @@ fn begin_tx(
 ) -> Begun
     ensures { result ≡ begin_tx words.now p i facts.round facts.slot num_txs txs s d }
 {
-    if txs.counter >= num_txs {
-        return old_tx(txs, s, d);
-    }
-    if txs.counter >= 64 {
+    if txs.counter >= num_txs || txs.counter >= 64 {
         return old_tx(txs, s, d);
     }
     new_tx(words, p, i, facts, txs, s, d)
 }
 
+#[tactic(auto, unfolding(crate::specs::Pipeline::record_due))]
 fn record_due(
     facts: RoundFacts,
     rounds: &[u64; 64],
@@ -156,54 +144,46 @@ fn record_judged(facts: RoundFacts, rounds: &[u64; 64], s: NodeTwoPcState, b: Re
     c
 }
 
+#[tactic(auto, unfolding(crate::specs::Pipeline::abort_of))]
 fn has_abort(s: NodeTwoPcState, t: usize) -> bool
     ensures { result ≡ abort_of s t }
 {
-    if !sets::is_marked(s.pending, t) {
-        return false;
-    }
-    sets::is_marked(s.aborts, t)
+    sets::is_marked(s.pending, t) && sets::is_marked(s.aborts, t)
 }
 
 // The votes known of a transaction while it is pending. A number of 64 or more is none.
+#[tactic(auto, unfolding(crate::specs::Pipeline::known_votes))]
 fn known_votes(s: NodeTwoPcState, t: usize) -> u64
     ensures { result ≡ known_votes s t }
 {
-    if t >= 64 {
-        return 0;
+    if t < 64 && sets::is_marked(s.pending, t) {
+        s.votes[t]
+    } else {
+        0
     }
-    if !sets::is_marked(s.pending, t) {
-        return 0;
-    }
-    let votes = s.votes;
-    votes[t]
 }
 
 fn with_unless(abort: bool, m: u64, i: usize) -> u64
     ensures { result ≡ either abort m (with_mark m i) }
 {
-    if abort {
-        return m;
-    }
-    pending::with(m, i)
+    if abort { m } else { pending::with(m, i) }
 }
 
+#[tactic(auto, unfolding(crate::specs::Pipeline::round_packet))]
 fn make_packet(
     i: usize,
     t: usize,
     fresh: bool,
     nack: usize,
-    piggyback: Piggyback,
+    piggyback: Option<Outcome>,
     s: NodeTwoPcState,
 ) -> RoundPacket
     ensures { result ≡ round_packet i t fresh nack piggyback s }
 {
     let abort = has_abort(s, t);
-    let known = known_votes(s, t);
-    let bits = with_unless(abort, known, i);
     RoundPacket {
         tx: t,
-        bits,
+        bits: with_unless(abort, known_votes(s, t), i),
         abort,
         nack,
         fresh,
@@ -213,6 +193,7 @@ fn make_packet(
 }
 
 // The gap is looked for first, then comes the new transaction, then what is due is judged, then the packet.
+#[tactic(auto, unfolding(crate::specs::Pipeline::prepare_round))]
 pub fn prepare_round(
     words: &[u64],
     p: f64,
@@ -221,7 +202,7 @@ pub fn prepare_round(
     num_txs: usize,
     txs: Txs,
     records: Records,
-    piggyback: Piggyback,
+    piggyback: Option<Outcome>,
     s: NodeTwoPcState,
     d: Draw,
 ) -> Prepared
@@ -229,18 +210,12 @@ pub fn prepare_round(
 {
     let nack = pending::nack(s, txs.counter);
     let b = begin_tx(words, p, i, facts, num_txs, txs, s, d);
-    let began = b.state;
-    let after = b.txs;
-    let rounds = after.rounds;
-    let noted = record_judged(facts, &rounds, began, records);
-    let own = pending::judge(facts.n, facts.round, &rounds, began);
-    let packet = make_packet(i, b.tx, b.fresh, nack, piggyback, own);
-    let e = b.draw;
+    let own = pending::judge(facts.n, facts.round, &b.txs.rounds, b.state);
     Prepared {
         state: own,
-        txs: after,
-        records: noted,
-        packet,
-        draw: e,
+        txs: b.txs,
+        records: record_judged(facts, &b.txs.rounds, b.state, records),
+        packet: make_packet(i, b.tx, b.fresh, nack, piggyback, own),
+        draw: b.draw,
     }
 }

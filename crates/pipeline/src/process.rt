@@ -1,8 +1,8 @@
 // RULES 10.5. process_round of sim/two_pc_pipeline.rs: what the positions that took part do with the flooded packet.
-ghost use Rattle.std.specs.Prelude.{◌≡◌, min, ◌&&◌, nat_le};
+ghost use Rattle.std.specs.Prelude.{◌≡◌};
 ghost use Rattle.pipeline.specs.Pipeline.{is_new, hear_new, merge_round, record_aborts, take_up, is_answer, answer_nack, process_one, parts_of, process_all, shortest_log, progressed, progress_all, stops_at};
 
-use super::two_pc_pipeline::{NodeTwoPcState, Piggyback, Records, RoundPacket};
+use super::two_pc_pipeline::{NodeTwoPcState, Outcome, Records, RoundPacket};
 use super::{logs, pending, prepare};
 use engines::clamp;
 use engines::node::Node;
@@ -29,7 +29,7 @@ pub struct Learnt {
 pub struct Carried {
     pub draw: Draw,
     pub records: Records,
-    pub piggyback: Piggyback,
+    pub piggyback: Option<Outcome>,
     pub answers: u64,
 }
 
@@ -46,22 +46,14 @@ pub struct AllProcessed {
 }
 
 // The packet brings a transaction that is neither pending nor logged here.
+#[tactic(auto, unfolding(crate::specs::Pipeline::is_new))]
 fn is_new(q: RoundPacket, s: NodeTwoPcState) -> bool
     ensures { result ≡ is_new q s }
 {
-    if !q.fresh {
-        return false;
-    }
-    if sets::is_marked(s.pending, q.tx) {
-        return false;
-    }
-    let g = s.log;
-    if sets::is_marked(logs::logged(g), q.tx) {
-        return false;
-    }
-    true
+    q.fresh && !sets::is_marked(s.pending, q.tx) && !sets::is_marked(logs::logged(s.log), q.tx)
 }
 
+#[tactic(auto, unfolding(crate::specs::Pipeline::hear_new))]
 fn hear_new(words: &[u64], p: f64, i: usize, q: RoundPacket, s: NodeTwoPcState, d: Draw) -> Learnt
     ensures { result ≡ hear_new words.now p i q s d }
 {
@@ -69,14 +61,14 @@ fn hear_new(words: &[u64], p: f64, i: usize, q: RoundPacket, s: NodeTwoPcState, 
         return Learnt { state: s, draw: d };
     }
     let v = pending::vote(words, p, i, q.bits, q.abort, d);
-    let e = v.draw;
     Learnt {
         state: pending::open_tx(s, q.tx, v.bits, v.abort),
-        draw: e,
+        draw: v.draw,
     }
 }
 
 // Votes up to the packet's transaction, its abort, and the own vote.
+#[tactic(auto, unfolding(crate::specs::Pipeline::merge_round))]
 fn merge_round(i: usize, q: RoundPacket, s: NodeTwoPcState) -> NodeTwoPcState
     ensures { result ≡ merge_round i q s }
 {
@@ -98,45 +90,46 @@ fn record_aborts(slot: u64, fast: u64, b: Records) -> Records
     c
 }
 
-fn take_up(p: Piggyback, s: NodeTwoPcState) -> NodeTwoPcState
+#[tactic(auto, unfolding(crate::specs::Pipeline::take_up))]
+fn take_up(p: Option<Outcome>, s: NodeTwoPcState) -> NodeTwoPcState
     ensures { result ≡ take_up p s }
 {
     match p {
-        Piggyback::Absent => s,
-        Piggyback::Present(t, committed) => pending::finalize_tx(s, t, committed),
+        Some(o) => pending::finalize_tx(s, o.tx, o.committed),
+        None => s,
     }
 }
 
 // The position has the outcome that was asked for.
+#[tactic(auto, unfolding(crate::specs::Pipeline::is_answer))]
 fn is_answer(nack: usize, s: NodeTwoPcState) -> bool
     ensures { result ≡ is_answer nack s }
 {
     if nack == 0 {
         return false;
     }
-    let g = s.log;
-    sets::is_marked(logs::logged(g), nack)
+    sets::is_marked(logs::logged(s.log), nack)
 }
 
+#[tactic(auto, unfolding(crate::specs::Pipeline::answer_nack))]
 fn answer_nack(nack: usize, s: NodeTwoPcState, l: Carried) -> Carried
     ensures { result ≡ answer_nack nack s l }
 {
     if !is_answer(nack, s) {
         return l;
     }
-    let g = s.log;
-    let committed = logs::outcome(g, nack);
-    let d = l.draw;
-    let b = l.records;
     Carried {
-        draw: d,
-        records: b,
-        piggyback: Piggyback::Present(nack, committed),
-        answers: std::num::wrapping_add_u64(l.answers, 1),
+        piggyback: Some(Outcome {
+            tx: nack,
+            committed: logs::outcome(s.log, nack),
+        }),
+        answers: l.answers.wrapping_add(1),
+        ..l
     }
 }
 
 // All steps of one position, in the Rust's order. Its own judgements come last and are not recorded.
+#[tactic(auto, unfolding(crate::specs::Pipeline::process_one))]
 fn process_one(
     words: &[u64],
     p: f64,
@@ -149,27 +142,18 @@ fn process_one(
 ) -> Processed
     ensures { result ≡ process_one words.now p facts rounds.now q i s l }
 {
-    let d = l.draw;
-    let h = hear_new(words, p, i, q, s, d);
-    let heard = h.state;
-    let merged = merge_round(i, q, heard);
+    let heard = hear_new(words, p, i, q, s, l.draw);
+    let merged = merge_round(i, q, heard.state);
     let fast = pending::fast_aborts(merged);
-    let records = l.records;
-    let noted = record_aborts(facts.slot, fast, records);
-    let aborted = pending::abort_all(merged, fast);
-    let told = q.piggyback;
-    let taken = take_up(told, aborted);
-    let e = h.draw;
-    let piggyback = l.piggyback;
-    let m = Carried {
-        draw: e,
-        records: noted,
-        piggyback,
-        answers: l.answers,
+    let taken = take_up(q.piggyback, pending::abort_all(merged, fast));
+    let noted = Carried {
+        draw: heard.draw,
+        records: record_aborts(facts.slot, fast, l.records),
+        ..l
     };
     Processed {
         state: pending::judge(facts.n, facts.round, rounds, taken),
-        carried: answer_nack(q.nack, taken, m),
+        carried: answer_nack(q.nack, taken, noted),
     }
 }
 
@@ -191,10 +175,8 @@ pub fn process_all(
     let mut left = parts;
     while left != 0 {
         let i = sets::lowest_mark(left);
-        let s = ss[i];
-        let x = process_one(words, p, facts, rounds, q, i, s, m);
-        let t = x.state;
-        ss[i] = t;
+        let x = process_one(words, p, facts, rounds, q, i, ss[i], m);
+        ss[i] = x.state;
         m = x.carried;
         left = sets::without_mark(left, i);
     }
@@ -212,44 +194,30 @@ pub fn parts(n: usize, initiator: usize, sleeping: u64) -> u64
     sets::intersection(all, sets::first_marks(n))
 }
 
-fn smaller(a: usize, b: usize) -> usize
-    ensures { result ≡ min a b }
-{
-    if a < b { a } else { b }
-}
-
 // The length of the shortest log of the first n.
+#[tactic(auto, using(crate::proofs::Turns::turns), unfolding(crate::specs::Pipeline::shorter_at, crate::specs::Pipeline::shortest_log))]
 pub fn shortest_log(states: [NodeTwoPcState; 64], n: usize) -> usize
     ensures { result ≡ shortest_log n states }
 {
-    let count = clamp::at_most_64(n);
-    let mut m: usize = 64;
-    let mut i: usize = 0;
-    while i < count {
-        let s = states[i];
-        let g = s.log;
-        m = smaller(m, g.len);
-        i += 1;
+    let mut shortest: usize = 64;
+    for i in 0..clamp::at_most_64(n) {
+        shortest = shortest.min(states[i].log.len);
     }
-    m
+    shortest
 }
 
 fn progress(v: Node, done: u64, goal: bool) -> Node
     ensures { result ≡ progressed done goal v }
 {
-    let mut w = v;
-    w.goal_reached = goal;
-    w.progress_count = done;
-    w
-}
-
-fn has_all(num_txs: usize, len: usize) -> bool
-    ensures { result ≡ nat_le num_txs len }
-{
-    num_txs <= len
+    Node {
+        goal_reached: goal,
+        progress_count: done,
+        ..v
+    }
 }
 
 // Everybody's progress, and whether its own log is complete.
+#[tactic(auto, using(crate::proofs::Turns::turns), unfolding(crate::specs::Pipeline::progress_at, crate::specs::Pipeline::progress_all))]
 pub fn progress_all(
     at: [Node; 64],
     n: usize,
@@ -259,42 +227,19 @@ pub fn progress_all(
 ) -> [Node; 64]
     ensures { result ≡ progress_all n num_txs done states at }
 {
-    let count = clamp::at_most_64(n);
     let mut a = at;
-    let mut i: usize = 0;
-    while i < count {
-        let s = states[i];
-        let g = s.log;
-        let goal = has_all(num_txs, g.len);
-        let v = a[i];
-        a[i] = progress(v, done as u64, goal);
-        i += 1;
+    for i in 0..clamp::at_most_64(n) {
+        let goal = num_txs <= states[i].log.len;
+        a[i] = progress(a[i], done as u64, goal);
     }
     a
 }
 
-fn all_done(num_txs: usize, done: usize, counter: usize) -> bool
-    ensures { result ≡ (nat_le num_txs done && nat_le num_txs counter) }
-{
-    if num_txs > done {
-        return false;
-    }
-    num_txs <= counter
-}
-
 // All have all, and all were generated; or it has idled too long. Written so that no sum can wrap.
+#[tactic(auto, unfolding(crate::specs::Pipeline::stops_at))]
 pub fn stops(num_txs: usize, done: usize, counter: usize, round: u64) -> bool
     ensures { result ≡ stops_at num_txs done counter round }
 {
-    if all_done(num_txs, done, counter) {
-        return true;
-    }
-    if round < 1000 {
-        return false;
-    }
-    if (num_txs as u64) < round - 1000 {
-        true
-    } else {
-        false
-    }
+    let all_done = num_txs <= done && num_txs <= counter;
+    all_done || (1000 <= round && (num_txs as u64) < round - 1000)
 }

@@ -36,16 +36,17 @@ pub struct Vote {
     pub draw: Draw,
 }
 
-// An outcome that a packet tells besides: the transaction, and whether it was committed.
-#[derive(Clone, Copy)]
-pub enum Piggyback {
-    Absent,
-    Present(usize, bool),
+// An outcome that a packet tells besides. Not a LogEntry: the transaction is any number that C lends, and an entry of a
+// log has one byte for it.
+#[derive(Clone, Copy, Debug, PartialEq, Eq)]
+pub struct Outcome {
+    pub tx: usize,
+    pub committed: bool,
 }
 
 // What a round's packet says. The rest of a TwoPcPacket follows: the phase is Prepare, the bitmap has an entry for
 // each position, and the data is that of the transaction if it is new.
-#[derive(Clone, Copy)]
+#[derive(Clone, Copy, Debug, PartialEq, Eq)]
 pub struct RoundPacket {
     pub tx: usize,
     pub bits: u64,
@@ -53,7 +54,7 @@ pub struct RoundPacket {
     pub nack: usize,
     pub fresh: bool,
     pub sender: usize,
-    pub piggyback: Piggyback,
+    pub piggyback: Option<Outcome>,
 }
 
 // The room's records: the outcomes in the order in which they were recorded, and the slot at which each transaction's

@@ -1,6 +1,6 @@
 -- RULES 17, entries on slices and numbers: a pipeline room as a lent list of numbers. A place
 -- past the end reads as 0, and nothing is put there. Assumes nothing.
-use Rattle.std.specs.Prelude.{ℕ, ◌+◌, ◌*◌, ◌%◌, false, List, [], ◌∷◌, ◌==◌, nat_lt, slice_index, slice_index_or, slice_set, Float}
+use Rattle.std.specs.Prelude.{ℕ, ◌+◌, ◌*◌, ◌%◌, false, Option, Some, None, List, [], ◌∷◌, ◌==◌, nat_lt, slice_index, slice_index_or, slice_set, Float}
 use Rattle.std.proofs.lemmas.List.Edits.{sets}
 use mir.Val.{bool_byte}
 use Rattle.loops.specs.Pick.{either}
@@ -14,8 +14,7 @@ use Rattle.pipeline.specs.Round.{no_packet, new_part}
 use Rattle.pipeline.specs.declared.two_pc_pipeline.LogEntry.{LogEntry}
 use Rattle.pipeline.specs.declared.two_pc_pipeline.TxLog.{TxLog}
 use Rattle.pipeline.specs.declared.two_pc_pipeline.NodeTwoPcState.{NodeTwoPcState}
-use Rattle.pipeline.specs.declared.two_pc_pipeline.Piggyback.{Piggyback}
-use Rattle.pipeline.specs.declared.two_pc_pipeline.Piggyback.TheVariants.{Absent, Present}
+use Rattle.pipeline.specs.declared.two_pc_pipeline.Outcome.{Outcome}
 use Rattle.pipeline.specs.declared.two_pc_pipeline.RoundPacket.{RoundPacket}
 use Rattle.pipeline.specs.declared.two_pc_pipeline.Records.{Records}
 use Rattle.pipeline.specs.declared.two_pc_pipeline.Txs.{Txs}
@@ -44,8 +43,8 @@ unfoldable pub states_at : List ℕ → List NodeTwoPcState
 states_at xs = tabulate 64 (λ i. state_at xs (789 + i * 131))
 
 -- A piggyback: whether there is one, its transaction, its outcome.
-abbrev pub piggyback_numbered : ℕ → ℕ → ℕ → Piggyback
-piggyback_numbered there t outcome = either (there == 0) Absent (Present t (truth outcome))
+abbrev pub piggyback_numbered : ℕ → ℕ → ℕ → Option Outcome
+piggyback_numbered there t outcome = either (there == 0) None (Some (record { tx = t; committed = truth outcome }))
 
 -- A packet: its fields in their order, the piggyback last.
 unfoldable pub packet_at : List ℕ → ℕ → RoundPacket
@@ -113,17 +112,17 @@ state_to ss i xs = put_state (789 + i * 131) (slice_index_or ss i no_state) xs
 unfoldable pub put_states : List NodeTwoPcState → List ℕ → List ℕ
 put_states ss xs = upto 64 (state_to ss) xs
 
-abbrev pub piggyback_there : Piggyback → ℕ
-piggyback_there Absent = 0
-piggyback_there (Present t o) = 1
+abbrev pub piggyback_there : Option Outcome → ℕ
+piggyback_there None = 0
+piggyback_there (Some o) = 1
 
-abbrev pub piggyback_number : Piggyback → ℕ
-piggyback_number Absent = 0
-piggyback_number (Present t o) = t
+abbrev pub piggyback_number : Option Outcome → ℕ
+piggyback_number None = 0
+piggyback_number (Some o) = o.tx
 
-abbrev pub piggyback_outcome : Piggyback → ℕ
-piggyback_outcome Absent = 0
-piggyback_outcome (Present t o) = bool_byte o
+abbrev pub piggyback_outcome : Option Outcome → ℕ
+piggyback_outcome None = 0
+piggyback_outcome (Some o) = bool_byte o.committed
 
 unfoldable pub packet_numbers : RoundPacket → List ℕ
 packet_numbers q =

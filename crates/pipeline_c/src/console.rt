@@ -9,7 +9,7 @@
 //   9173 the packets that they hold, 9 numbers each; 9749 in all
 // A place past the end of the list reads as 0, and nothing is put there. An entry of a log is its transaction, and 256
 // more if it was committed.
-ghost use Rattle.std.specs.Prelude.{◌≡◌, ◌+◌, ◌*◌, ◌<◌, ◌≤◌};
+ghost use Rattle.std.specs.Prelude.{◌≡◌, [], ◌∷◌, ◌+◌, ◌*◌, ◌<◌, ◌≤◌};
 ghost use Rattle.std.proofs.lemmas.List.Edits.{sets};
 ghost use Rattle.engines_c.specs.Numbers.{truth};
 ghost use Rattle.flood.specs.Flood.{flood_length};
@@ -24,8 +24,9 @@ use engines_c::numbers;
 use graph::network::NetworkGraph;
 use pipeline::pipeline::{PipelineConf, PipelinePart};
 use pipeline::two_pc_pipeline::{
-    LogEntry, NodeTwoPcState, Piggyback, Records, RoundPacket, TxLog, Txs,
+    LogEntry, NodeTwoPcState, Outcome, Records, RoundPacket, TxLog, Txs,
 };
+use std::array;
 
 // ---- from numbers
 
@@ -43,16 +44,9 @@ fn log_of(xs: &[u64], at: usize) -> TxLog
     requires { at ≤ 10000 }
     ensures { result ≡ log_at xs.now at }
 {
-    let e = entry_numbered(0);
-    let mut entries = [e; 64];
-    let mut i: usize = 0;
-    while i < 64 {
-        entries[i] = entry_numbered(numbers::number(xs, at + 1 + i));
-        i += 1;
-    }
     TxLog {
         len: numbers::number(xs, at) as usize,
-        entries,
+        entries: array::from_fn(|i| entry_numbered(numbers::number(xs, at + 1 + i))),
     }
 }
 
@@ -61,52 +55,41 @@ fn words_of(xs: &[u64], at: usize) -> [u64; 64]
     requires { at ≤ 10000 }
     ensures { result ≡ words_at xs.now at }
 {
-    let mut a = [0u64; 64];
-    let mut i: usize = 0;
-    while i < 64 {
-        a[i] = numbers::number(xs, at + i);
-        i += 1;
-    }
-    a
+    array::from_fn(|i| numbers::number(xs, at + i))
 }
 
+#[tactic(auto, unfolding(crate::specs::Console::state_at))]
 fn state_of(xs: &[u64], at: usize) -> NodeTwoPcState
     requires { at ≤ 9900 }
     ensures { result ≡ state_at xs.now at }
 {
-    let log = log_of(xs, at);
-    let votes = words_of(xs, at + 67);
     NodeTwoPcState {
-        log,
+        log: log_of(xs, at),
         pending: numbers::number(xs, at + 65),
         aborts: numbers::number(xs, at + 66),
-        votes,
+        votes: words_of(xs, at + 67),
     }
 }
 
 fn states_of(xs: &[u64]) -> [NodeTwoPcState; 64]
     ensures { result ≡ states_at xs.now }
 {
-    let s = state_of(xs, 0);
-    let mut a = [s; 64];
-    let mut i: usize = 0;
-    while i < 64 {
-        a[i] = state_of(xs, 789 + i * 131);
-        i += 1;
-    }
-    a
+    array::from_fn(|i| state_of(xs, 789 + i * 131))
 }
 
-fn piggyback_numbered(there: u64, t: u64, outcome: u64) -> Piggyback
+fn piggyback_numbered(there: u64, t: u64, outcome: u64) -> Option<Outcome>
     ensures { result ≡ piggyback_numbered there t outcome }
 {
     if there == 0 {
-        return Piggyback::Absent;
+        return None;
     }
-    let o = numbers::is_yes(outcome);
-    Piggyback::Present(t as usize, o)
+    Some(Outcome {
+        tx: t as usize,
+        committed: numbers::is_yes(outcome),
+    })
 }
 
+#[tactic(auto, unfolding(crate::specs::Console::packet_at))]
 fn packet_of(xs: &[u64], at: usize) -> RoundPacket
     requires { at ≤ 10000 }
     ensures { result ≡ packet_at xs.now at }
@@ -114,7 +97,6 @@ fn packet_of(xs: &[u64], at: usize) -> RoundPacket
     let there = numbers::number(xs, at + 6);
     let t = numbers::number(xs, at + 7);
     let outcome = numbers::number(xs, at + 8);
-    let piggyback = piggyback_numbered(there, t, outcome);
     RoundPacket {
         tx: numbers::number(xs, at) as usize,
         bits: numbers::number(xs, at + 1),
@@ -122,78 +104,67 @@ fn packet_of(xs: &[u64], at: usize) -> RoundPacket
         nack: numbers::number(xs, at + 3) as usize,
         fresh: numbers::is_yes(numbers::number(xs, at + 4)),
         sender: numbers::number(xs, at + 5) as usize,
-        piggyback,
+        piggyback: piggyback_numbered(there, t, outcome),
     }
 }
 
 fn packets_of(xs: &[u64]) -> [RoundPacket; 64]
     ensures { result ≡ packets_at xs.now }
 {
-    let q = packet_of(xs, 0);
-    let mut a = [q; 64];
-    let mut i: usize = 0;
-    while i < 64 {
-        a[i] = packet_of(xs, 9173 + i * 9);
-        i += 1;
-    }
-    a
+    array::from_fn(|i| packet_of(xs, 9173 + i * 9))
 }
 
+#[tactic(auto, unfolding(crate::specs::Console::txs_at))]
 fn txs_of(xs: &[u64]) -> Txs
     ensures { result ≡ txs_at xs.now }
 {
-    let starts = words_of(xs, 20);
-    let rounds = words_of(xs, 84);
     Txs {
         counter: numbers::number(xs, 19) as usize,
-        starts,
-        rounds,
+        starts: words_of(xs, 20),
+        rounds: words_of(xs, 84),
     }
 }
 
+#[tactic(auto, unfolding(crate::specs::Console::records_at))]
 fn records_of(xs: &[u64]) -> Records
     ensures { result ≡ records_at xs.now }
 {
-    let log = log_of(xs, 148);
-    let ends = words_of(xs, 213);
-    Records { log, ends }
+    Records {
+        log: log_of(xs, 148),
+        ends: words_of(xs, 213),
+    }
 }
 
+#[tactic(auto, unfolding(crate::specs::Console::part_at))]
 fn part_of(xs: &[u64]) -> PipelinePart
     ensures { result ≡ part_at xs.now }
 {
-    let states = states_of(xs);
-    let txs = txs_of(xs);
     let there = numbers::number(xs, 15);
     let t = numbers::number(xs, 16);
     let outcome = numbers::number(xs, 17);
-    let piggyback = piggyback_numbered(there, t, outcome);
-    let records = records_of(xs);
-    let payloads = packets_of(xs);
     PipelinePart {
         round: numbers::number(xs, 2),
         stop: numbers::is_yes(numbers::number(xs, 4)),
-        states,
-        txs,
-        piggyback,
-        records,
-        payloads,
+        states: states_of(xs),
+        txs: txs_of(xs),
+        piggyback: piggyback_numbered(there, t, outcome),
+        records: records_of(xs),
+        payloads: packets_of(xs),
         holding: numbers::number(xs, 18),
     }
 }
 
+#[tactic(auto, unfolding(crate::specs::Console::played_at))]
 fn played_of(xs: &[u64]) -> Played
     ensures { result ≡ played_at xs.now }
 {
-    let network = numbers::network_of(xs, 3, 7, 277);
-    let part = part_of(xs);
     Played {
         refusal: 0,
         cursor: numbers::number(xs, 6) as usize,
         used: numbers::number(xs, 5) as usize,
         count: 0,
-        network,
-        part,
+        network: numbers::network_of(xs, 3, 7, 277),
+        part: part_of(xs),
     }
 }
 
@@ -203,25 +174,19 @@ fn entry_number(e: LogEntry) -> u64
     ensures { result ≡ entry_number e }
 {
     if e.committed {
-        return e.tx as u64 + 256;
+        e.tx as u64 + 256
+    } else {
+        e.tx as u64
     }
-    e.tx as u64
 }
 
 fn log_numbers(g: TxLog) -> [u64; 64]
     ensures { result ≡ log_numbers g }
 {
-    let entries = g.entries;
-    let mut a = [0u64; 64];
-    let mut i: usize = 0;
-    while i < 64 {
-        let e = entries[i];
-        a[i] = entry_number(e);
-        i += 1;
-    }
-    a
+    array::from_fn(|i| entry_number(g.entries[i]))
 }
 
+#[tactic(auto, unfolding(crate::specs::Console::put_log))]
 fn put_log(xs: &mut [u64], at: usize, g: TxLog)
     ensures { xs.new ≡ put_log at g xs.old }
 {
@@ -230,60 +195,40 @@ fn put_log(xs: &mut [u64], at: usize, g: TxLog)
     numbers::put_run(xs, at, 1, &values);
 }
 
+#[tactic(auto, unfolding(crate::specs::Console::put_state))]
 fn put_state(xs: &mut [u64], at: usize, s: NodeTwoPcState)
     requires { at ≤ 10000 }
     ensures { xs.new ≡ put_state at s xs.old }
 {
-    let g = s.log;
-    let votes = s.votes;
-    put_log(xs, at, g);
+    put_log(xs, at, s.log);
     numbers::put(xs, at + 65, s.pending);
     numbers::put(xs, at + 66, s.aborts);
-    numbers::put_run(xs, at, 67, &votes);
+    numbers::put_run(xs, at, 67, &s.votes);
 }
 
+#[tactic(auto, using(pipeline::proofs::Turns::turns), unfolding(crate::specs::Console::state_to, crate::specs::Console::put_states))]
 fn put_states(xs: &mut [u64], states: [NodeTwoPcState; 64])
     ensures { xs.new ≡ put_states states xs.old }
 {
-    let mut i: usize = 0;
-    while i < 64 {
-        let s = states[i];
-        put_state(xs, 789 + i * 131, s);
-        i += 1;
+    for i in 0..64 {
+        put_state(xs, 789 + i * 131, states[i]);
     }
 }
 
-fn piggyback_there(p: Piggyback) -> u64
-    ensures { result ≡ piggyback_there p }
+fn piggyback_numbers(p: Option<Outcome>) -> [u64; 3]
+    ensures { result ≡ piggyback_there p ∷ piggyback_number p ∷ piggyback_outcome p ∷ [] }
 {
     match p {
-        Piggyback::Absent => 0,
-        Piggyback::Present(_, _) => 1,
+        None => [0, 0, 0],
+        Some(o) => [1, o.tx as u64, o.committed as u64],
     }
 }
 
-fn piggyback_number(p: Piggyback) -> u64
-    ensures { result ≡ piggyback_number p }
-{
-    match p {
-        Piggyback::Absent => 0,
-        Piggyback::Present(t, _) => t as u64,
-    }
-}
-
-fn piggyback_outcome(p: Piggyback) -> u64
-    ensures { result ≡ piggyback_outcome p }
-{
-    match p {
-        Piggyback::Absent => 0,
-        Piggyback::Present(_, o) => o as u64,
-    }
-}
-
+#[tactic(auto, unfolding(crate::specs::Console::packet_numbers))]
 fn packet_numbers(q: RoundPacket) -> [u64; 9]
     ensures { result ≡ packet_numbers q }
 {
-    let p = q.piggyback;
+    let [there, t, outcome] = piggyback_numbers(q.piggyback);
     [
         q.tx as u64,
         q.bits,
@@ -291,9 +236,9 @@ fn packet_numbers(q: RoundPacket) -> [u64; 9]
         q.nack as u64,
         q.fresh as u64,
         q.sender as u64,
-        piggyback_there(p),
-        piggyback_number(p),
-        piggyback_outcome(p),
+        there,
+        t,
+        outcome,
     ]
 }
 
@@ -304,37 +249,31 @@ fn put_packet(xs: &mut [u64], k: usize, q: RoundPacket)
     numbers::put_run(xs, 9173, k, &values);
 }
 
+#[tactic(auto, using(pipeline::proofs::Turns::turns), unfolding(crate::specs::Console::packet_to, crate::specs::Console::put_packets))]
 fn put_packets(xs: &mut [u64], payloads: [RoundPacket; 64])
     ensures { xs.new ≡ put_packets payloads xs.old }
 {
-    let mut i: usize = 0;
-    while i < 64 {
-        let q = payloads[i];
-        put_packet(xs, i * 9, q);
-        i += 1;
+    for i in 0..64 {
+        put_packet(xs, i * 9, payloads[i]);
     }
 }
 
+#[tactic(auto, unfolding(crate::specs::Console::clock_numbers))]
 fn clock_numbers(p: PipelinePart, cursor: usize, used: usize) -> [u64; 3]
     ensures { result ≡ clock_numbers p cursor used }
 {
     [p.stop as u64, used as u64, cursor as u64]
 }
 
+#[tactic(auto, unfolding(crate::specs::Console::head_numbers))]
 fn head_numbers(p: PipelinePart) -> [u64; 5]
     ensures { result ≡ head_numbers p }
 {
-    let b = p.piggyback;
-    let txs = p.txs;
-    [
-        piggyback_there(b),
-        piggyback_number(b),
-        piggyback_outcome(b),
-        p.holding,
-        txs.counter as u64,
-    ]
+    let [there, t, outcome] = piggyback_numbers(p.piggyback);
+    [there, t, outcome, p.holding, p.txs.counter as u64]
 }
 
+#[tactic(auto, unfolding(crate::specs::Console::put_head))]
 fn put_head(xs: &mut [u64], p: PipelinePart, cursor: usize, used: usize)
     ensures { xs.new ≡ put_head p cursor used xs.old }
 {
@@ -345,39 +284,32 @@ fn put_head(xs: &mut [u64], p: PipelinePart, cursor: usize, used: usize)
     numbers::put_run(xs, 0, 15, &head);
 }
 
+#[tactic(auto, unfolding(crate::specs::Console::put_txs))]
 fn put_txs(xs: &mut [u64], txs: Txs, records: Records)
     ensures { xs.new ≡ put_txs txs records xs.old }
 {
-    let starts = txs.starts;
-    let rounds = txs.rounds;
-    let g = records.log;
-    let ends = records.ends;
-    numbers::put_run(xs, 0, 20, &starts);
-    numbers::put_run(xs, 0, 84, &rounds);
-    put_log(xs, 148, g);
-    numbers::put_run(xs, 0, 213, &ends);
+    numbers::put_run(xs, 0, 20, &txs.starts);
+    numbers::put_run(xs, 0, 84, &txs.rounds);
+    put_log(xs, 148, records.log);
+    numbers::put_run(xs, 0, 213, &records.ends);
 }
 
+#[tactic(auto, unfolding(crate::specs::Console::put_part))]
 fn put_part(xs: &mut [u64], p: PipelinePart, cursor: usize, used: usize)
     ensures { xs.new ≡ put_part p cursor used xs.old }
 {
-    let txs = p.txs;
-    let records = p.records;
-    let states = p.states;
-    let payloads = p.payloads;
     put_head(xs, p, cursor, used);
-    put_txs(xs, txs, records);
-    put_states(xs, states);
-    put_packets(xs, payloads);
+    put_txs(xs, p.txs, p.records);
+    put_states(xs, p.states);
+    put_packets(xs, p.payloads);
 }
 
+#[tactic(auto, unfolding(crate::specs::Console::put_played))]
 pub fn put_played(xs: &mut [u64], t: Played)
     ensures { xs.new ≡ put_played t xs.old }
 {
-    let network = t.network;
-    let part = t.part;
-    numbers::put_network(xs, 3, 7, 277, network);
-    put_part(xs, part, t.cursor, t.used);
+    numbers::put_network(xs, 3, 7, 277, t.network);
+    put_part(xs, t.part, t.cursor, t.used);
 }
 
 // ---- the entries
@@ -387,17 +319,15 @@ pub fn put_played(xs: &mut [u64], t: Played)
 pub extern "C" fn pipeline_open(state: &mut [u64])
     ensures { state.new ≡ put_played opened state.old }
 {
-    let network = Network::new();
-    let part = PipelinePart::new();
-    let t = Played {
+    let opened = Played {
         refusal: 0,
         cursor: 0,
         used: 0,
         count: 0,
-        network,
-        part,
+        network: Network::new(),
+        part: PipelinePart::new(),
     };
-    put_played(state, t);
+    put_played(state, opened);
 }
 
 // How many slots a flood may take; given is 0 if the slots are not.
@@ -413,6 +343,7 @@ pub extern "C" fn pipeline_flood_length(
     flood::flood::flood_length(numbers::is_yes(given), slots, diameter, repeats)
 }
 
+#[tactic(auto, unfolding(crate::specs::Console::conf_by))]
 fn conf_of(
     links: &[u64],
     n: usize,
@@ -426,7 +357,6 @@ fn conf_of(
 ) -> PipelineConf
     ensures { result ≡ conf_by links.now n transactions loss_rate abort_probability repeats length interval bound }
 {
-    let rows = words_of(links, 0);
     let settings = Settings {
         loss_rate,
         abort_probability,
@@ -438,7 +368,10 @@ fn conf_of(
     };
     PipelineConf {
         round: RoundConf {
-            graph: NetworkGraph { n, adj: rows },
+            graph: NetworkGraph {
+                n,
+                adj: words_of(links, 0),
+            },
             settings,
             interval,
             length,

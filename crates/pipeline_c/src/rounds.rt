@@ -17,6 +17,7 @@ pub struct Played {
     pub part: PipelinePart,
 }
 
+#[tactic(auto, unfolding(crate::specs::Play::count_after))]
 fn count_after(count: u64, refusal: u64) -> u64
     ensures { result ≡ count_after count refusal }
 {
@@ -26,27 +27,25 @@ fn count_after(count: u64, refusal: u64) -> u64
     count
 }
 
+#[tactic(auto, unfolding(crate::specs::Play::noted))]
 fn note(count: u64, a: PipelineAnswer) -> Played
     ensures { result ≡ noted count a }
 {
-    let network = a.network;
-    let part = a.part;
     Played {
         refusal: a.refusal,
         cursor: a.cursor,
         used: a.used,
         count: count_after(count, a.refusal),
-        network,
-        part,
+        network: a.network,
+        part: a.part,
     }
 }
 
+#[tactic(auto, unfolding(crate::specs::Play::play_round))]
 fn play_round(words: &[u64], rows: &mut [u64], conf: PipelineConf, t: Played) -> Played
     ensures { record { rows = rows.exit.now; played = result } ≡ play_round words.now conf (record { rows = rows.entry.now; played = t }) }
 {
-    let w = t.network;
-    let p = t.part;
-    let a = pipes::pipeline_round(words, t.cursor, rows, t.used, conf, w, p);
+    let a = pipes::pipeline_round(words, t.cursor, rows, t.used, conf, t.network, t.part);
     note(t.count, a)
 }
 
@@ -61,13 +60,11 @@ pub fn play_rounds(
     ensures { record { rows = rows.exit.now; played = result } ≡ play_rounds words.now conf rounds (record { rows = rows.entry.now; played = start }) }
 {
     let mut t = start;
-    let mut left = rounds;
-    while 0 < left {
+    for _round in 0..rounds {
         if t.refusal != 0 {
             return t;
         }
         t = play_round(words, rows, conf, t);
-        left -= 1;
     }
     t
 }

@@ -1,10 +1,7 @@
-use Rattle.std.proofs.Common.{◌≡◌, ◌≤◌}
-use Rattle.loops.specs.Downto.{downto}
-use Rattle.pipeline.specs.Pending.{outcome_at}
+use Rattle.std.proofs.Common.{ℕ, ◌≢◌, ◌<◌, get_or}
+use Rattle.pipeline.specs.Pending.{no_entry}
 use Rattle.pipeline.proofs.logs.outcome.Given as goal
 
+-- none of the entries so far is of this transaction
 abbrev pub invariant-loop-k : goal.invariant-loop-k
-invariant-loop-k l = (l.k ≤ 64) × (downto l.k (outcome_at l.entries l.t) l.o ≡ downto l.initial.k (outcome_at l.entries l.t) l.initial.o)
-
-abbrev pub decreases-loop-k : goal.decreases-loop-k
-decreases-loop-k l = l.k
+invariant-loop-k l = (i : ℕ) → i < l.k → (get_or l.g.entries i no_entry).tx ≢ l.t

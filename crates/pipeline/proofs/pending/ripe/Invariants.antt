@@ -1,10 +1,7 @@
-use Rattle.std.proofs.Common.{◌≡◌, ℕ, ◌-◌, ◌^◌, ◌<◌, ◌≤◌, ◌&&◌, ltb, get_or}
+use Rattle.std.proofs.Common.{◌≡◌, ℕ, ◌^◌, ◌<◌, ◌&&◌, ltb, get_or}
 use Rattle.marks.specs.Marks.{has}
 use Rattle.pipeline.specs.Pending.{is_judged}
 use Rattle.pipeline.proofs.pending.ripe.Given as goal
 
 abbrev pub invariant-loop-t : goal.invariant-loop-t
-invariant-loop-t l = (l.t ≤ 64) × ((k : ℕ) → has l.m k ≡ (ltb k l.t && is_judged l.n l.r (get_or l.rounds k 0))) × (l.m < 2 ^ 64)
-
-abbrev pub decreases-loop-t : goal.decreases-loop-t
-decreases-loop-t l = 64 - l.t
+invariant-loop-t l = ((k : ℕ) → has l.m k ≡ (ltb k l.t && is_judged l.n l.r (get_or l.rounds k 0))) × (l.m < 2 ^ 64)

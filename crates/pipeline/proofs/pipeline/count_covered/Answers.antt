@@ -1,15 +1,17 @@
-use Rattle.std.proofs.Common.{rules}
-use Rattle.loops.specs.Upto.{upto_none, upto_turn, upto_all}
-use Rattle.pipeline.specs.Round.{is_covered, cover_at, covered_of}
+use Rattle.std.proofs.Common.{◌∙◌, refl, rules}
+use Rattle.pipeline.proofs.Counting.{packet_eq, cover_yes, cover_out, cover_other}
+use Rattle.pipeline.proofs.pipeline.count_covered.Goals.{then-is_marked+then-eq, else-is_marked, else-is_marked-via-then-is_marked+else-eq, else-is_marked-via-else-is_marked}
 use Rattle.pipeline.proofs.pipeline.count_covered.Goals as goal
 
-pub loop-i-init : goal.loop-i-init
-loop-i-init c = (search rules, upto_none _ _)
-
 pub loop-i-preserved : goal.loop-i-preserved
-unfolding cover_at is_covered
-loop-i-preserved c = (search rules, upto_turn _ _ c.loop-i.invariant.1 (rw (← c.is_marked-holds.ensures, ← c.is_covered.ensures) c.one_more-k.ensures))
-
-pub returns : goal.returns
-unfolding covered_of
-returns c = rw (← c.at_most_64-count.ensures) (upto_all _ _ c.loop-i.invariant.0 c.loop-i-test.false c.loop-i.invariant.1)
+loop-i-preserved c =
+    elim c.if-is_marked.branch [
+      | then-is_marked+then-eq w ↦
+          rw w.covered-is (cover_yes _ _ _ _ _ c.loop-i.invariant (search rules) (w.if-eq.ensures ∙ packet_eq _ (λ o p. refl) _ _))
+      | else-is_marked w ↦
+          rw w.covered-is (
+          elim w.else-is_marked.branch [
+            | else-is_marked-via-then-is_marked+else-eq v ↦ cover_other _ _ _ _ _ c.loop-i.invariant (search rules) (v.if-eq.ensures ∙ packet_eq _ (λ o p. refl) _ _)
+            | else-is_marked-via-else-is_marked v ↦ cover_out _ _ _ _ _ c.loop-i.invariant (search rules)
+          ])
+    ]

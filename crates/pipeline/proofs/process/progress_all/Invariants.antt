@@ -1,10 +1,7 @@
-use Rattle.std.proofs.Common.{◌≡◌, ◌-◌, ◌≤◌}
+use Rattle.std.proofs.Common.{◌≡◌}
 use Rattle.loops.specs.Upto.{upto}
 use Rattle.pipeline.specs.Pipeline.{progress_at}
 use Rattle.pipeline.proofs.process.progress_all.Given as goal
 
 abbrev pub invariant-loop-i : goal.invariant-loop-i
-invariant-loop-i l = (l.i ≤ l.count) × (l.a ≡ upto l.i (progress_at l.num_txs l.done l.states) l.initial.a)
-
-abbrev pub decreases-loop-i : goal.decreases-loop-i
-decreases-loop-i l = l.count - l.i
+invariant-loop-i l = l.a ≡ upto l.i (progress_at l.num_txs l.done l.states) l.initial.a

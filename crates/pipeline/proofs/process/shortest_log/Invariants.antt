@@ -1,10 +1,7 @@
-use Rattle.std.proofs.Common.{◌≡◌, ◌-◌, ◌≤◌}
+use Rattle.std.proofs.Common.{◌≡◌}
 use Rattle.loops.specs.Upto.{upto}
 use Rattle.pipeline.specs.Pipeline.{shorter_at}
 use Rattle.pipeline.proofs.process.shortest_log.Given as goal
 
 abbrev pub invariant-loop-i : goal.invariant-loop-i
-invariant-loop-i l = (l.i ≤ l.count) × (l.m ≡ upto l.i (shorter_at l.states) 64)
-
-abbrev pub decreases-loop-i : goal.decreases-loop-i
-decreases-loop-i l = l.count - l.i
+invariant-loop-i l = l.shortest ≡ upto l.i (shorter_at l.states) 64

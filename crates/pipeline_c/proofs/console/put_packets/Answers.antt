@@ -1,19 +1,7 @@
+use Rattle.std.proofs.Common.{length, ap, ◌∙◌}
+use Rattle.loops.specs.Upto.{upto_keeps}
 use Rattle.pipeline_c.proofs.Numbering.{packet_to_length}
-use Rattle.std.proofs.Common.{length, ap, ◌∙◌, arith}
-use Rattle.loops.specs.Upto.{upto_none, upto_turn, upto_all, upto_keeps}
-use Rattle.pipeline_c.specs.Console.{packet_to, put_packets}
 use Rattle.pipeline_c.proofs.console.put_packets.Goals as goal
 
-pub loop-i-init : goal.loop-i-init
-loop-i-init c = (omega arith, upto_none _ _)
-
-pub loop-i-preserved : goal.loop-i-preserved
-unfolding packet_to
-loop-i-preserved c = (omega arith, upto_turn _ _ c.loop-i.invariant.1 c.put_packet.ensures)
-
 pub shape_of-xs : goal.shape_of-xs
-shape_of-xs c = ap length c.loop-i.invariant.1 ∙ upto_keeps length _ _ _ (packet_to_length _)
-
-pub returns : goal.returns
-unfolding put_packets
-returns c = upto_all _ _ c.loop-i.invariant.0 c.loop-i-test.false c.loop-i.invariant.1
+shape_of-xs c = ap length c.loop-i.invariant ∙ upto_keeps length _ _ _ (packet_to_length _)
