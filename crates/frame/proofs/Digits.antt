@@ -1,10 +1,10 @@
 -- Digits and numbers of a frame line, as the code reads them. Assumes nothing.
-use mathlib.Core.Path.{◌≡◌, refl, ap, ◌∙◌}
+use mathlib.Core.Path.{◌≡◌, refl}
 use mathlib.Core.Bool.{Bool, true, false, ◌&&◌, ◌||◌}
 use mathlib.Core.Logic.{◌⊎◌, inl, inr, ⊎_elim}
 use mathlib.Core.List.{List}
 use Prim.Native.Nat.{ℕ, zero, suc, ◌+◌, ◌-◌, ◌*◌, ◌/◌, ◌%◌, ◌^◌, ◌≤◌, ◌<◌}
-use native.Mathlib.Nat.{le_antisymm, pow-suc, pow-le-pow_right}
+use native.Mathlib.Nat.{pow-suc, pow-le-pow_right}
 use native.Mathlib.Numerals.{add-one}
 use native.Mathlib.Omega.{arith}
 use lib.ListN.{length, get_or}
@@ -12,53 +12,8 @@ use lib.Dec.{leb}
 use borrow.Author.Tests.{le-leb, lt-leb, leb-true}
 use Rattle.loops.specs.Pick.{either}
 use Rattle.marks.specs.Marks.{all_of}
-use Rattle.marks.specs.Sets.{all_at}
-use Rattle.frame.specs.Lines.{is_hex, digit_of, all_hex, number_at, name_length, word_count}
-
-between : (a b c : ℕ) → a ≤ b → b ≤ c → (leb a b && leb b c) ≡ true
-between a b c h k = rw (le-leb a b h, le-leb b c k)
-
-under : (a b c : ℕ) → b < a → (leb a b && leb b c) ≡ false
-under a b c h = rw (lt-leb a b h)
-
-over : (a b c : ℕ) → c < b → (leb a b && leb b c) ≡ false
-over a b c h = go (leb a b)
-  where
-    go : (t : Bool) → (t && leb b c) ≡ false
-    go true = lt-leb b c h
-    go false = refl
-
--- The five ways past two ranges of bytes: in the first, in the second, under both, between them, over both.
-module _ (b : ℕ) where
-  pub hex_low : 48 ≤ b → b ≤ 57 → true ≡ is_hex b
-  hex_low h k = rw (between 48 b 57 h k)
-
-  pub hex_high : 65 ≤ b → b ≤ 70 → true ≡ is_hex b
-  hex_high h k = rw (over 48 b 57 (omega arith), between 65 b 70 h k)
-
-  pub hex_under : b < 48 → false ≡ is_hex b
-  hex_under h = rw (under 48 b 57 h, under 65 b 70 (omega arith))
-
-  pub hex_between : 57 < b → b < 65 → false ≡ is_hex b
-  hex_between h k = rw (over 48 b 57 h, under 65 b 70 k)
-
-  pub hex_over : 70 < b → false ≡ is_hex b
-  hex_over h = rw (over 48 b 57 (omega arith), over 65 b 70 h)
-
-  pub digit_low : 48 ≤ b → b ≤ 57 → b - 48 ≡ digit_of b
-  digit_low h k = rw (between 48 b 57 h k)
-
-  pub digit_high : 65 ≤ b → b ≤ 70 → b - 55 ≡ digit_of b
-  digit_high h k = rw (over 48 b 57 (omega arith), between 65 b 70 h k)
-
-  pub digit_under : b < 48 → 0 ≡ digit_of b
-  digit_under h = rw (under 48 b 57 h, under 65 b 70 (omega arith))
-
-  pub digit_between : 57 < b → b < 65 → 0 ≡ digit_of b
-  digit_between h k = rw (over 48 b 57 h, under 65 b 70 k)
-
-  pub digit_over : 70 < b → 0 ≡ digit_of b
-  digit_over h = rw (over 48 b 57 (omega arith), over 65 b 70 h)
+use Rattle.marks.specs.Sets.{all_at, all_more, all_left}
+use Rattle.frame.specs.Lines.{is_hex, digit_of, all_hex, number_at, name_byte, name_fits}
 
 hex_ranges : (b : ℕ) → is_hex b ≡ true → ((48 ≤ b) × (b ≤ 57)) ⊎ ((65 ≤ b) × (b ≤ 70))
 hex_ranges b e = go (leb 48 b) (leb b 57) (leb 65 b) (leb b 70) refl refl refl refl e
@@ -74,13 +29,13 @@ hex_ranges b e = go (leb 48 b) (leb b 57) (leb 65 b) (leb b 70) refl refl refl r
 
 -- the value of a digit without a test
 pub value_is : (b : ℕ) → is_hex b ≡ true → b % 16 + b / 64 * 9 ≡ digit_of b
-value_is b e = ⊎_elim (λ h. low h.0 h.1 ∙ digit_low b h.0 h.1) (λ h. high h.0 h.1 ∙ digit_high b h.0 h.1) (hex_ranges b e)
+value_is b e = ⊎_elim (λ h. low h.0 h.1) (λ h. high h.0 h.1) (hex_ranges b e)
   where
-    low : 48 ≤ b → b ≤ 57 → b % 16 + b / 64 * 9 ≡ b - 48
-    low h k = omega arith
+    low : 48 ≤ b → b ≤ 57 → b % 16 + b / 64 * 9 ≡ digit_of b
+    low h k = rw (le-leb 48 b h, le-leb b 57 k) (omega arith)
 
-    high : 65 ≤ b → b ≤ 70 → b % 16 + b / 64 * 9 ≡ b - 55
-    high h k = omega arith
+    high : 65 ≤ b → b ≤ 70 → b % 16 + b / 64 * 9 ≡ digit_of b
+    high h k = rw (le-leb 48 b (omega arith), lt-leb b 57 (omega arith), le-leb 65 b h, le-leb b 70 k) (omega arith)
 
 pub hex_at : (s : List ℕ) (i : ℕ) → all_hex s ≡ true → i < length s → is_hex (get_or s i 0) ≡ true
 unfolding all_hex
@@ -98,17 +53,21 @@ digit_lt b = go (leb 48 b) (leb b 57) refl (leb 65 b) (leb b 70) refl
     go false q e true false f = omega arith
     go false q e false s f = omega arith
 
--- one byte more is looked at; then all are
+-- the first i bytes are digits
 abbrev pub hex_upto : List ℕ → ℕ → Bool
 hex_upto s i = all_of i (λ j. is_hex (get_or s j 0))
 
-pub hex_more : (s : List ℕ) (i : ℕ) {g h : Bool} → g ≡ hex_upto s i → h ≡ is_hex (get_or s i 0) → (g && h) ≡ hex_upto s (i + 1)
+pub hex_none : (s : List ℕ) → hex_upto s 0 ≡ true
 unfolding all_of
-hex_more s i e f = rw (add-one i, e, f)
+hex_none s = refl
 
-pub hex_all : (s : List ℕ) (i : ℕ) {g : Bool} → i ≤ length s → length s ≤ i → g ≡ hex_upto s i → g ≡ all_hex s
+pub hex_more : (s : List ℕ) (i : ℕ) → hex_upto s (i + 1) ≡ (hex_upto s i && is_hex (get_or s i 0))
+unfolding all_of
+hex_more s i = rw (add-one i)
+
+pub hex_all : (s : List ℕ) → all_hex s ≡ hex_upto s (length s)
 unfolding all_hex
-hex_all s i h l e = e ∙ ap (hex_upto s) (le_antisymm h l)
+hex_all s = refl
 
 -- c digits are a number below 16 ^ c
 pub number_lt : (s : List ℕ) (i c : ℕ) → number_at s i c < 16 ^ c
@@ -132,10 +91,19 @@ number_none s i = refl
 pub number_room : (s : List ℕ) (i k v : ℕ) → k < 16 → v ≡ number_at s i k → v * 16 + 15 < 2 ^ 64
 number_room s i k v h e = omega (arith, number_lt s i k, pow-le-pow_right {n = 16} (omega arith) {i = k} {j = 15} (omega arith))
 
--- behind the name
-pub no_words : (s : List ℕ) (n : ℕ) → n ≡ name_length s → length s < 76 + 2 * n → 0 ≡ word_count s
-unfolding word_count
-no_words s n e h = rw (← e) (none (length s) n h)
-  where
-    none : (l n : ℕ) → l < 76 + 2 * n → 0 ≡ (l - (76 + 2 * n)) / 16
-    none l n h = omega arith
+pub four_bytes_lt : (s : List ℕ) (i : ℕ) {v : ℕ} → v ≡ number_at s i 8 → v < 2 ^ 32
+four_bytes_lt s i e = omega (arith, number_lt s i 8)
+
+-- a byte more of a name
+pub name_none : (s : List ℕ) → name_fits s 0 ≡ true
+unfolding name_fits all_of
+name_none s = refl
+
+pub name_more : (s : List ℕ) (k : ℕ) → name_fits s k ≡ true → name_byte s k ≡ true → name_fits s (k + 1) ≡ true
+unfolding name_fits
+name_more s k e f = all_more (λ j. name_byte s j) k e f
+
+-- a byte that does not print
+pub name_bad : (s : List ℕ) (k n : ℕ) → k < n → name_byte s k ≡ false → name_fits s n ≡ false
+unfolding name_fits
+name_bad s k n h f = all_left (λ j. name_byte s j) k n h f

@@ -1,20 +1,24 @@
 -- A pipeline frame's rounds run until the room has stopped or one is refused: each accepted round leaves one fewer of T + 1002. Assumes nothing.
-use mathlib.Core.Bool.{Bool, true, false, not, ◌||◌}
+use mathlib.Core.Bool.{Bool, true, false}
 use mathlib.Core.List.{List}
 use mathlib.Core.Path.{◌≡◌, refl, subst}
 use Prim.Native.Nat.{ℕ, zero, suc, ◌+◌, ◌≤◌}
 use native.Mathlib.Omega.{arith}
 use lib.Dec.{eqb}
 use borrow.Author.Tests.{eq-eqb}
+use Rattle.std.specs.Prelude.{Result, Ok, Err}
 use Rattle.loops.specs.Runs.{go, runs}
 use Rattle.limits.specs.Limits.{row_cells}
+use Rattle.limits.specs.declared.refusals.Refusal.{Refusal}
 use Rattle.pipeline.specs.Round.{new_part}
 use Rattle.pipeline.specs.declared.pipeline.PipelineAnswer.{PipelineAnswer}
+use Rattle.merges.proofs.Safety.{either_cases}
 use Rattle.pipeline.proofs.Ending.{Spent, accepted}
 use Rattle.room.specs.declared.room.RoomConf.{RoomConf}
+use Rattle.room.specs.Pipelining.{pipeline_part}
 use Rattle.room.specs.Rooms.{open_refusal, conf_of}
 use Rattle.room.proofs.Spending.{part_spent, spent_going, few_transactions}
-use Rattle.frame.specs.Play.{asked_of, pipeline_turn, is_done, new_ran, play_pipeline}
+use Rattle.frame.specs.Play.{asked_of, unless_refused, pipeline_turn, is_done, new_ran, play_pipeline}
 use Rattle.frame.specs.Stopping.{RunsUntilStopped}
 
 -- ---- a loop has stopped at its end if what its steps keep says so once none is left
@@ -28,16 +32,6 @@ module _ {S : Type 0} (stop : S → Bool) (step : S → S) (Q : ℕ → S → Ty
   runs_ends : (k : ℕ) (s : S) → Q k s → stop (runs stop step k s) ≡ true
   runs_ends k s q = go_ends k (stop s) s refl q
 
--- ---- what is not done goes on
-
-not_done : (s : PipelineAnswer) → is_done s ≡ false → (eqb s.refusal 0 ≡ true) × (s.part.stop ≡ false)
-unfolding is_done
-not_done s e = by (eqb s.refusal 0) s.part.stop e
-  where
-    by : (a b : Bool) → (not a || b) ≡ false → (a ≡ true) × (b ≡ false)
-    by true b h = (refl, h)
-    by false b h = absurd (let z : ◌≡◌ {A = ℕ} 0 1 = cc in omega arith)
-
 -- ---- the rounds of a room of t transactions: those that were accepted, and those that are left
 
 record Going (t left : ℕ) (s : PipelineAnswer) : Type 0 where
@@ -45,8 +39,10 @@ record Going (t left : ℕ) (s : PipelineAnswer) : Type 0 where
   spent : Spent t count s.part.stop s.part.round
   all : count + left ≡ t + 1002
 
-abbrev Left : ℕ → ℕ → PipelineAnswer → Type 0
-Left t left s = is_done s ≡ false → Going t left s
+-- a room that has not stopped goes on; a refused round ends it
+abbrev Left : ℕ → ℕ → Result PipelineAnswer Refusal → Type 0
+Left t left (Ok s) = s.part.stop ≡ false → Going t left s
+Left t left (Err k) = Unit {0}
 
 one : (m : ℕ) → eqb m 0 ≡ true → accepted m ≡ 1
 one m e = rw e
@@ -55,29 +51,36 @@ module _ (conf : RoomConf) (ws : List ℕ) (bounded : conf.transactions ≤ 64) 
   abbrev t : ℕ
   t = conf.transactions
 
-  turn_spent : (k : ℕ) (s : PipelineAnswer) → Spent t k s.part.stop s.part.round
-      → Spent t (k + accepted (pipeline_turn ws conf s).refusal) (pipeline_turn ws conf s).part.stop (pipeline_turn ws conf s).part.round
+  -- what a round hands back beside its refusal
+  abbrev round : PipelineAnswer → PipelineAnswer
+  round s = pipeline_part ws row_cells s.used conf s.network s.part s.cursor
+
+  turn_left : (k : ℕ) (s : PipelineAnswer) → s.part.stop ≡ false → Left t (suc k) (Ok s) → Left t k (pipeline_turn ws conf s)
   unfolding pipeline_turn
-  turn_spent k s w = part_spent ws row_cells s.used conf s.network s.part s.cursor k bounded w
-
-  turn_left : (k : ℕ) (s : PipelineAnswer) → is_done s ≡ false → Left t (suc k) s → Left t k (pipeline_turn ws conf s)
-  turn_left k s e q d =
+  turn_left k s e q =
       let g = q e in
-      let a = pipeline_turn ws conf s in
-      let h : accepted a.refusal ≡ 1 = one a.refusal (not_done a d).0 in
-      record { count = g.count + accepted a.refusal; spent = turn_spent g.count s g.spent; all = omega (arith, h, g.all) }
+      let a = round s in
+      let spent = part_spent ws row_cells s.used conf s.network s.part s.cursor g.count bounded g.spent in
+      either_cases (Left t k) (eqb a.refusal 0)
+      (λ z d. record { count = g.count + accepted a.refusal; spent = spent; all = omega (arith, one a.refusal z, g.all) })
+      (λ z. tt)
 
-  none_left : (s : PipelineAnswer) → Left t 0 s → is_done s ≡ true
-  none_left s q = by (is_done s) refl
+  turns_left : (k : ℕ) (r : Result PipelineAnswer Refusal) → is_done r ≡ false → Left t (suc k) r → Left t k (unless_refused (pipeline_turn ws conf) r)
+  turns_left k (Ok s) e q = turn_left k s e q
+  turns_left k (Err m) e q = tt
+
+  none_left : (r : Result PipelineAnswer Refusal) → Left t 0 r → is_done r ≡ true
+  none_left (Ok s) q = by s.part.stop refl
     where
-      by : (b : Bool) → is_done s ≡ b → b ≡ true
+      by : (b : Bool) → s.part.stop ≡ b → b ≡ true
       by true e = refl
-      by false e = absurd (let g = q e in omega (arith, g.all, spent_going t g.count s.part.round (subst (λ (b : Bool). Spent t g.count b s.part.round) (not_done s e).1 g.spent)))
+      by false e = absurd (let g = q e in omega (arith, g.all, spent_going t g.count s.part.round (subst (λ (b : Bool). Spent t g.count b s.part.round) e g.spent)))
+  none_left (Err m) q = refl
 
 pub runs_until_stopped : RunsUntilStopped
 unfolding play_pipeline new_part asked_of
 runs_until_stopped f g ws e =
     let conf = conf_of (asked_of f g) in
     let h = few_transactions (asked_of f g) (eq-eqb (open_refusal (asked_of f g)) 0 e) in
-    runs_ends is_done (pipeline_turn ws conf) (Left conf.transactions) (turn_left conf ws h) (none_left conf ws h) _ new_ran
+    runs_ends is_done (unless_refused (pipeline_turn ws conf)) (Left conf.transactions) (turns_left conf ws h) (none_left conf ws h) _ (Ok new_ran)
     (λ d. record { count = 0; spent = (refl, omega arith); all = omega arith })

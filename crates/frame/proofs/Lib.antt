@@ -1,5 +1,4 @@
 pub mod Digits
-pub mod Frames
 pub mod Floats
 pub mod Playing
 pub mod Texts

@@ -1,51 +1,50 @@
--- What bounds a frame's fields, and the refusals of a frame one by one. Assumes nothing.
-use mathlib.Core.Path.{◌≡◌, refl, sym, ap, ◌∙◌, subst}
+-- What bounds a frame's fields, its words, and its turns as the loops take them. Assumes nothing.
+use mathlib.Core.Path.{◌≡◌, refl, sym, ap, ◌∙◌}
 use mathlib.Core.Bool.{Bool, true, false, ◌&&◌}
 use mathlib.Core.List.{List}
-use Prim.Native.Nat.{ℕ, ◌+◌, ◌-◌, ◌*◌, ◌/◌, ◌^◌, ◌≤◌, ◌<◌}
+use Prim.Native.Nat.{ℕ, zero, suc, ◌+◌, ◌-◌, ◌*◌, ◌/◌, ◌≤◌, ◌<◌}
 use native.Mathlib.Nat.{le_antisymm}
 use native.Mathlib.Numerals.{add-one}
+use native.Mathlib.Decide.{dec_lt}
 use native.Mathlib.Omega.{arith}
 use lib.Dec.{ltb, leb}
 use lib.ListN.{length, take, drop, set}
 use lib.Seq.{take_at}
-use borrow.Author.Tests.{eq-eqb, ne_eqb, le-leb, lt-leb, leb-true, ltb-true}
+use borrow.Author.Tests.{leb-true, ltb-true}
+use Rattle.std.specs.Prelude.{Result, Ok, Err}
 use Rattle.loops.specs.Pick.{either}
+use Rattle.loops.specs.Upto.{upto, upto_more}
+use Rattle.loops.specs.Runs.{go, runs, runs_none, runs_turn}
 use Rattle.loops.specs.Table.{tabulate, length_tabulate}
 use Rattle.texts.specs.Put.{Put, written, put_none, put_as, put_more, put_byte}
-use Rattle.limits.specs.Refusals.{bad_positions}
-use Rattle.graph.specs.Links.{topology_of}
-use Rattle.graph.specs.declared.network.Built.{Built}
+use Rattle.limits.specs.declared.refusals.Refusal.{Refusal}
+use Rattle.pipeline.specs.declared.pipeline.PipelineAnswer.{PipelineAnswer}
+use Rattle.room.specs.declared.room.RoomConf.{RoomConf}
 use Rattle.frame.specs.Bounds.{frame_digits, frame_words}
-use Rattle.frame.specs.Lines.{number_at, all_hex, name_length, has_name, is_kind, is_frame, word_count, words_of, frame_of, no_frame}
-use Rattle.frame.specs.Play.{refused_by, played_in, linked_by, played_of}
+use Rattle.frame.specs.Lines.{number_at, all_hex, name_length, has_name, is_kind, is_frame, word_count, words_of, fields_of, frame_of, no_frame}
+use Rattle.frame.specs.Play.{unless_refused, capture_turn, new_captured, play_capture, pipeline_turn, is_done, played_of}
 use Rattle.frame.specs.Listing.{outcome_of, words_in}
 use Rattle.frame.specs.declared.line.Frame.{Frame}
-use Rattle.frame.specs.declared.play.Outcome.{Outcome}
-use Rattle.frame.proofs.Digits.{number_lt}
 
-no : false ≡ true → ⊥
-no e = let z : ◌≡◌ {A = ℕ} 0 1 = cc in omega arith
+never : false ≡ true → ⊥
+never e = let z : ◌≡◌ {A = ℕ} 0 1 = cc in omega arith
 
 -- ---- the fields of a frame
 
 pub record Kept (s : List ℕ) (f : Frame) : Type 0 where
   pub name : f.name ≡ name_length s
-  pub short : f.name ≤ 255
   pub count : f.words ≡ word_count s
   pub few : f.words ≤ frame_words
   pub inside : 76 + 2 * f.name + 16 * f.words ≤ length s
   pub hex : all_hex s ≡ true
-  pub span : f.span < 2 ^ 32
-  pub txs : f.transactions < 256
 
 left : (p q : Bool) → (p && q) ≡ true → p ≡ true
 left true q e = refl
-left false q e = absurd (no e)
+left false q e = absurd (never e)
 
 right : (p q : Bool) → (p && q) ≡ true → q ≡ true
 right true q e = e
-right false q e = absurd (no e)
+right false q e = absurd (never e)
 
 named : (s : List ℕ) → has_name s ≡ true → (0 < name_length s) × (76 + 2 * name_length s ≤ length s)
 unfolding has_name
@@ -68,68 +67,26 @@ words_few l n h g = omega arith
 words_inside : (l n : ℕ) → 76 + 2 * n ≤ l → 76 + 2 * n + 16 * ((l - (76 + 2 * n)) / 16) ≤ l
 words_inside l n h = omega arith
 
-pub kept : (s : List ℕ) {f : Frame} → f ≡ frame_of s → f.refusal ≡ 0 → Kept s f
-unfolding frame_of word_count name_length
-kept s {f} q e = subst (Kept s) (sym q) (go (is_frame s) refl (sym (ap (λ (x : Frame). x.refusal) q) ∙ e))
+accepted_is : (s : List ℕ) {f : Frame} → Ok f ≡ frame_of s → (is_frame s ≡ true) × (f ≡ fields_of s)
+unfolding frame_of
+accepted_is s {f} q = go (is_frame s) q
   where
-    fields : Frame
-    fields = record {
-      refusal = 0;
-      kind = number_at s 0 2;
-      positions = number_at s 2 2;
-      topology = number_at s 4 2;
-      argument = number_at s 6 2;
-      transactions = number_at s 8 2;
-      span = number_at s 10 8;
-      slots = number_at s 18 8;
-      loss = number_at s 26 16;
-      abort = number_at s 42 16;
-      seed = number_at s 58 16;
-      name = name_length s;
-      words = word_count s;
-    }
+    go : (b : Bool) → Ok f ≡ either b (Ok (fields_of s)) no_frame → (b ≡ true) × (f ≡ fields_of s)
+    go true e = (refl, cc)
+    go false e = cc
 
-    go : (b : Bool) → is_frame s ≡ b → (either b fields no_frame).refusal ≡ 0 → Kept s (either b fields no_frame)
-    go true p z =
-        record {
-          name = refl;
-          short = omega (arith, number_lt s 74 2);
-          count = refl;
-          few = words_few (length s) (name_length s) (bounded s p).0 (bounded s p).1;
-          inside = words_inside (length s) (name_length s) (bounded s p).2;
-          hex = (bounded s p).3;
-          span = number_lt s 10 8;
-          txs = number_lt s 8 2;
-        }
-    go false p z = absurd (let u : ◌≡◌ {A = ℕ} 1 0 = z in omega arith)
-
--- ---- 2 and 3
-
--- the first n, as a part that was lent
-first : (n : ℕ) (l : List ℕ) → take (n - 0) (drop 0 l) ≡ take n l
-first n l = ap (λ (k : ℕ). take k l) (same n)
-  where
-    same : (n : ℕ) → n - 0 ≡ n
-    same n = omega arith
-
-module _ (f : Frame) (ws : List ℕ) where
-  pub few_positions : f.positions < 2 → refused_by bad_positions ≡ played_of f ws
-  unfolding played_of
-  few_positions h = rw (lt-leb 2 f.positions h)
-
-  pub many_positions : 2 ≤ f.positions → 64 < f.positions → refused_by bad_positions ≡ played_of f ws
-  unfolding played_of
-  many_positions h g = rw (le-leb 2 f.positions h, lt-leb f.positions 64 g)
-
-  pub no_links : {b : Built} → 2 ≤ f.positions → f.positions ≤ 64 → b ≡ topology_of f.topology f.positions f.argument → (b.refusal ≡ 0 → ⊥) → refused_by b.refusal ≡ played_of f ws
-  unfolding played_of linked_by
-  no_links {b} h g e k = rw (le-leb 2 f.positions h, le-leb f.positions 64 g, ← e, ne_eqb b.refusal 0 k)
-
-  pub with_links : {b : Built} {r : Outcome} → 2 ≤ f.positions → f.positions ≤ 64 → b ≡ topology_of f.topology f.positions f.argument → b.refusal ≡ 0 → r ≡ played_in f ws b.graph → r ≡ played_of f ws
-  unfolding played_of linked_by
-  with_links {b} h g e k q = rw (le-leb 2 f.positions h, le-leb f.positions 64 g, ← e, eq-eqb b.refusal 0 k) q
-
--- ---- 1
+pub kept : (s : List ℕ) {f : Frame} → Ok f ≡ frame_of s → Kept s f
+unfolding fields_of word_count name_length
+kept s {f} q =
+    let a = accepted_is s q in
+    let b = bounded s a.0 in
+    rw a.1 (record {
+      name = refl;
+      count = refl;
+      few = words_few (length s) (name_length s) b.0 b.1;
+      inside = words_inside (length s) (name_length s) b.2;
+      hex = b.3;
+    })
 
 abbrev pub word_at : List ℕ → ℕ → ℕ → ℕ
 word_at s i k = number_at s (i + 16 * k) 16
@@ -155,39 +112,74 @@ words_front : (ws t : List ℕ) (n : ℕ) → length t ≡ n → take n (written
 unfolding written
 words_front ws t n e = take_at t (drop (0 + length t) ws) n e
 
-refused_not : (s : List ℕ) → ((frame_of s).refusal ≡ 0 → ⊥) → is_frame s ≡ false
-unfolding frame_of
-refused_not s k = go (is_frame s) refl k
+-- no frame: the words stay
+pub no_words : (s ws : List ℕ) {k : Refusal} → Err k ≡ frame_of s → ws ≡ words_in s ws
+unfolding frame_of words_in
+no_words s ws {k} e = go (is_frame s) e
   where
-    go : (b : Bool) → is_frame s ≡ b → ((frame_of s).refusal ≡ 0 → ⊥) → b ≡ false
-    go true p z = absurd (z (rw p))
-    go false p z = refl
+    go : (b : Bool) → Err k ≡ either b (Ok (fields_of s)) no_frame → ws ≡ either b (written ws 0 (words_of s)) ws
+    go true e = cc
+    go false e = refl
 
-accepted_is : (s : List ℕ) → (frame_of s).refusal ≡ 0 → is_frame s ≡ true
-unfolding frame_of
-accepted_is s z = go (is_frame s) refl z
-  where
-    go : (b : Bool) → is_frame s ≡ b → (frame_of s).refusal ≡ 0 → b ≡ true
-    go true p z = refl
-    go false p z = absurd (let u : ◌≡◌ {A = ℕ} 1 0 = rw p at z in omega arith)
+module _ (s ws : List ℕ) {f : Frame} (e : Ok f ≡ frame_of s) {vs : List ℕ} (w : vs ≡ written ws 0 (tabulate f.words (word_at s (76 + 2 * f.name)))) where
+  stored : tabulate f.words (word_at s (76 + 2 * f.name)) ≡ words_of s
+  stored = words_read s f.words f.name (kept s e).count (kept s e).name
 
-pub no_frame_lem : (s ws : List ℕ) {f : Frame} → f ≡ frame_of s → (f.refusal ≡ 0 → ⊥) → (refused_by f.refusal ≡ outcome_of s) × (ws ≡ words_in s ws)
-unfolding outcome_of words_in
-no_frame_lem s ws {f} e k =
-    let n : is_frame s ≡ false = refused_not s (rw e at k) in
-    (rw (← e, ne_eqb f.refusal 0 k), rw n)
-
-module _ (s ws : List ℕ) {f : Frame} (e : f ≡ frame_of s) (k : f.refusal ≡ 0) {vs : List ℕ} (w : vs ≡ written ws 0 (tabulate f.words (word_at s (76 + 2 * f.name)))) where
   pub words_left : vs ≡ words_in s ws
   unfolding words_in
-  words_left =
-      let y : is_frame s ≡ true = accepted_is s (rw e at k) in
-      let r = words_read s f.words f.name (kept s e k).count (kept s e k).name in
-      rw y (w ∙ ap (written ws 0) r)
+  words_left = rw (accepted_is s e).0 (w ∙ ap (written ws 0) stored)
 
-  pub a_frame : {r : Outcome} → r ≡ played_of f (take (f.words - 0) (drop 0 vs)) → r ≡ outcome_of s
+  pub a_frame : {r : Result ℕ Refusal} → r ≡ played_of f (take f.words vs) → r ≡ outcome_of s
   unfolding outcome_of
   a_frame q =
-      let r = words_read s f.words f.name (kept s e k).count (kept s e k).name in
-      let t : take f.words vs ≡ words_of s = ap (take f.words) w ∙ words_front ws _ f.words (length_tabulate f.words _) ∙ r in
-      rw (← e, eq-eqb f.refusal 0 k) (q ∙ ap (played_of f) (first f.words vs ∙ t))
+      let t : take f.words vs ≡ words_of s = ap (take f.words) w ∙ words_front ws _ f.words (length_tabulate f.words _) ∙ stored in
+      rw (← e) (q ∙ ap (played_of f) t)
+
+-- ---- turns, as a loop takes them
+
+pub captured_none : (ws : List ℕ) (conf : RoomConf) → Ok new_captured ≡ play_capture 0 ws conf
+unfolding play_capture upto
+captured_none ws conf = refl
+
+pub captured_more : (k : ℕ) (ws : List ℕ) (conf : RoomConf) → play_capture (k + 1) ws conf ≡ unless_refused (capture_turn ws conf k) (play_capture k ws conf)
+unfolding play_capture
+captured_more k ws conf = upto_more (λ j. unless_refused (capture_turn ws conf j)) (Ok new_captured) k
+
+-- a refusal stays
+pub captured_refused : (t k : ℕ) (ws : List ℕ) (conf : RoomConf) {e : Refusal} → play_capture (k + 1) ws conf ≡ Err e → k < t → play_capture t ws conf ≡ Err e
+unfolding play_capture upto
+captured_refused zero k ws conf h l = absurd (omega arith)
+captured_refused (suc t) k ws conf {e} h l = go (dec_lt k t) (λ m. captured_refused t k ws conf h m)
+  where
+    last : (k t : ℕ) → k < suc t → (k < t → ⊥) → suc t ≡ k + 1
+    last k t l q = omega arith
+
+    go : Dec (k < t) → (k < t → play_capture t ws conf ≡ Err e) → play_capture (suc t) ws conf ≡ Err e
+    go (yes m) stays = ap (unless_refused (capture_turn ws conf t)) (stays m)
+    go (no q) stays = ap (λ (j : ℕ). play_capture j ws conf) (last k t l q) ∙ h
+
+module _ (ws : List ℕ) (conf : RoomConf) where
+  -- what at most n more turns leave
+  abbrev pub going : ℕ → Result PipelineAnswer Refusal → Result PipelineAnswer Refusal
+  going n r = runs is_done (unless_refused (pipeline_turn ws conf)) n r
+
+  going_ends : (n : ℕ) (r : Result PipelineAnswer Refusal) → is_done r ≡ true → going n r ≡ r
+  unfolding go
+  going_ends zero r e = refl
+  going_ends (suc n) r e = rw e
+
+  pub going_stop : (n : ℕ) (s : PipelineAnswer) {v : Result PipelineAnswer Refusal} → s.part.stop ≡ true → going n (Ok s) ≡ v → Ok s ≡ v
+  going_stop n s b e = sym (going_ends n (Ok s) b) ∙ e
+
+  pub going_refused : (n : ℕ) (k : Refusal) {v : Result PipelineAnswer Refusal} → going n (Err k) ≡ v → Err k ≡ v
+  going_refused n k e = sym (going_ends n (Err k) refl) ∙ e
+
+  pub going_out : {n k : ℕ} {r v : Result PipelineAnswer Refusal} → n ≤ k → going (n - k) r ≡ v → r ≡ v
+  going_out h e = runs_none is_done (unless_refused (pipeline_turn ws conf)) (omega arith) e
+
+  pub going_on : {n k : ℕ} (s : PipelineAnswer) {r v : Result PipelineAnswer Refusal} → k < n → s.part.stop ≡ false → r ≡ pipeline_turn ws conf s → going (n - k) (Ok s) ≡ v → going (n - (k + 1)) r ≡ v
+  going_on {n} {k} s {r} h b q e =
+      ap (λ (m : ℕ). going m r) (less n k) ∙ runs_turn is_done (unless_refused (pipeline_turn ws conf)) {s = Ok s} (omega arith) b q e
+    where
+      less : (n k : ℕ) → n - (k + 1) ≡ n - k - 1
+      less n k = omega arith

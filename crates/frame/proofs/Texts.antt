@@ -7,20 +7,19 @@ use Prim.Native.Nat.{ℕ, ◌+◌, ◌*◌, ◌^◌, ◌≤◌, ◌<◌}
 use native.Mathlib.Nat.{le_antisymm}
 use native.Mathlib.Numerals.{add-one}
 use native.Mathlib.Omega.{arith}
-use lib.Dec.{eqb, leb}
+use lib.Dec.{leb}
 use borrow.Author.Tests.{le-leb, lt-leb}
 use lib.ListN.{length, length-append}
 use Rattle.loops.specs.Table.{tabulate, length_tabulate}
 use Rattle.texts.specs.Decimal.{decimal, decimal_word}
 use Rattle.texts.specs.Put.{Put, Room, put_none, put_as, put_more, length_written}
-use Rattle.loops.specs.Pick.{either}
 use Rattle.frame.specs.Bounds.{frame_digits, frame_words, listing_bytes}
-use Rattle.frame.specs.Lines.{number_at, name_length, frame_of}
-use Rattle.frame.specs.declared.play.Outcome.{Outcome}
-use Rattle.frame.specs.declared.listing.Listed.{Listed}
+use Rattle.std.specs.Prelude.{Result, Ok, Err}
+use Rattle.limits.specs.declared.refusals.Refusal.{Refusal}
+use Rattle.limits.specs.declared.refusals.Refusal.TheVariants.{NoFit}
+use Rattle.frame.specs.Lines.{number_at, name_length, is_frame, frame_of}
 use Rattle.frame.specs.Listing.{outcome_of, name_of, sent_text, refused_word, refused_text, text_of, listing_of, has_room, listed_of, words_in, words_after, listed_in}
 use Rattle.frame.proofs.Digits.{number_lt}
-use Rattle.frame.proofs.Frames.{frame_long}
 
 pub name_length_lem : (s : List ℕ) (k : ℕ) → length (name_of s k) ≡ k
 unfolding name_of
@@ -64,31 +63,20 @@ module _ (s : List ℕ) (sent : ℕ) {n : ℕ} {out d e : List ℕ} {o r : ℕ} 
       put_as (rw (← q)) (put_more (omega arith) p (put_more (omega (arith, p.next, name_length_lem s n)) b t))
 
 -- no listing line is longer than that
-sent_short : (s : List ℕ) (sent : ℕ) → sent < 2 ^ 64 → length (sent_text s sent) ≤ listing_bytes
+pub sent_short : (s : List ℕ) (sent : ℕ) → sent < 2 ^ 64 → length (sent_text s sent) ≤ listing_bytes
 unfolding sent_text name_length
 sent_short s sent h = omega (arith, length-append (name_of s (name_length s)) ((32 ∷ []) ++ decimal sent), name_length_lem s (name_length s), number_lt s 74 2, length-append (32 ∷ []) (decimal sent), decimal_word sent h)
 
-refused_short : (k : ℕ) → k < 2 ^ 64 → length (refused_text k) ≤ listing_bytes
+pub refused_short : (k : ℕ) → k < 2 ^ 64 → length (refused_text k) ≤ listing_bytes
 unfolding refused_text
 refused_short k h = omega (arith, length-append refused_word (decimal k), decimal_word k h)
 
-pub text_short : (s : List ℕ) (o : Outcome) → o.refusal < 2 ^ 64 → o.sent < 2 ^ 64 → length (text_of s o) ≤ listing_bytes
-unfolding text_of
-text_short s o h g = go (eqb o.refusal 0)
-  where
-    go : (b : Bool) → length (either b (sent_text s o.sent) (refused_text o.refusal)) ≤ listing_bytes
-    go true = sent_short s o.sent g
-    go false = refused_short o.refusal h
-
 -- a line of too many digits is refused, whatever they are
 pub long_refused : (s : List ℕ) → frame_digits < length s → listing_of s ≡ refused_text 1
-unfolding listing_of text_of outcome_of frame_of
-long_refused s h = rw (← frame_long s h)
+unfolding listing_of text_of outcome_of frame_of is_frame
+long_refused s h = rw (lt-leb (length s) frame_digits h)
 
 -- ---- a listing call
-
-abbrev None : Listed
-None = record { refusal = 10; len = 0 }
 
 room_not : (w o : ℕ) → (w < frame_words) ⊎ (o < listing_bytes) → has_room w o ≡ false
 room_not w o (inl h) = rw (lt-leb frame_words w h)
@@ -99,15 +87,15 @@ room_not w o (inr h) = go (leb frame_words w)
     go false = refl
 
 module _ (s words out : List ℕ) where
-  pub too_short : (length words < frame_words) ⊎ (length out < listing_bytes) → {r : Listed} → r ≡ None → (r ≡ listed_of s (length words) (length out)) × (r.len ≤ listing_bytes) × (words ≡ words_after s words (length out)) × (out ≡ listed_in s (length words) out)
+  pub too_short : (length words < frame_words) ⊎ (length out < listing_bytes) → (Err NoFit ≡ listed_of s (length words) (length out)) × (words ≡ words_after s words (length out)) × (out ≡ listed_in s (length words) out)
   unfolding listed_of listed_in words_after
-  too_short h {r} e =
+  too_short h =
       let n : has_room (length words) (length out) ≡ false = room_not (length words) (length out) h in
-      (e ∙ rw n, omega (arith, ap (λ (x : Listed). x.len) e), rw n, rw n)
+      (rw n, rw n, rw n)
 
-  pub listed : {o : Outcome} {r : ℕ} {ws d : List ℕ} → frame_words ≤ length words → listing_bytes ≤ length out → o.refusal < 2 ^ 64 → o.sent < 2 ^ 64 → o ≡ outcome_of s → ws ≡ words_in s words → Put out 0 (text_of s o) r d → (record { refusal = 0; len = r } ≡ listed_of s (length words) (length out)) × (r ≤ listing_bytes) × (ws ≡ words_after s words (length out)) × (d ≡ listed_in s (length words) out)
+  pub listed : {o : Result ℕ Refusal} {r : ℕ} {ws d : List ℕ} → frame_words ≤ length words → listing_bytes ≤ length out → o ≡ outcome_of s → ws ≡ words_in s words → Put out 0 (text_of s o) r d → (Ok r ≡ listed_of s (length words) (length out)) × (ws ≡ words_after s words (length out)) × (d ≡ listed_in s (length words) out)
   unfolding listed_of listed_in listing_of words_after
-  listed {o} {r} h g a b e w p =
+  listed {o} {r} h g e w p =
       let n : r ≡ length (text_of s o) = omega (arith, p.next) in
       let y : has_room (length words) (length out) ≡ true = rw (le-leb frame_words (length words) h, le-leb listing_bytes (length out) g) in
-      (rw (y, ← e, n), omega (arith, text_short s o a b), rw y w, rw (y, ← e, p.left))
+      (rw (y, ← e, n), rw y w, rw (y, ← e, p.left))

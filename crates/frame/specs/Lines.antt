@@ -1,11 +1,14 @@
 -- RULES 13.1 and 13.2, the frame line, and refusal 1 of RULES 15. Places are counted in digits; a byte has two.
 -- Assumes nothing.
-use Rattle.std.specs.Prelude.{Bool, ◌&&◌, ◌||◌, List, ℕ, zero, suc, ◌+◌, ◌-◌, ◌*◌, ◌/◌, ◌%◌, length, get_or, eqb, ltb, leb}
-use Rattle.limits.specs.Refusals.{bad_line}
+use Rattle.std.specs.Prelude.{Bool, ◌&&◌, ◌||◌, Result, Ok, Err, List, ℕ, zero, suc, ◌+◌, ◌-◌, ◌*◌, ◌/◌, ◌%◌, length, get_or, eqb, ltb, leb}
+use Rattle.limits.specs.declared.refusals.Refusal.{Refusal}
+use Rattle.limits.specs.declared.refusals.Refusal.TheVariants.{BadLine}
 use Rattle.loops.specs.Pick.{either}
 use Rattle.loops.specs.Table.{tabulate}
 use Rattle.marks.specs.Marks.{all_of}
 use Rattle.frame.specs.Bounds.{frame_digits}
+use Rattle.room.specs.declared.room.RoomKind.{RoomKind}
+use Rattle.room.specs.declared.room.RoomKind.TheVariants as kinds
 use Rattle.frame.specs.declared.line.Frame.{Frame}
 
 -- Digits are 0 to 9 and A to F.
@@ -24,7 +27,7 @@ unfoldable pub all_hex : List ℕ → Bool
 all_hex s = all_of (length s) (λ i. is_hex (get_or s i 0))
 
 -- A name's bytes are those that print, from 21 to 7E in hexadecimal.
-unfoldable pub name_byte : List ℕ → ℕ → Bool
+abbrev pub name_byte : List ℕ → ℕ → Bool
 name_byte s k = leb 33 (number_at s (76 + 2 * k) 2) && leb (number_at s (76 + 2 * k) 2) 126
 
 unfoldable pub name_fits : List ℕ → ℕ → Bool
@@ -43,8 +46,11 @@ has_name s =
     && eqb ((length s - (76 + 2 * name_length s)) % 16) 0))
 
 -- kind 1 is a pipeline, 2 a capture room
-unfoldable pub is_kind : ℕ → Bool
+abbrev pub is_kind : ℕ → Bool
 is_kind k = eqb k 1 || eqb k 2
+
+abbrev pub kind_of : ℕ → RoomKind
+kind_of k = either (eqb k 1) kinds.Pipeline kinds.Capture
 
 -- A frame: digits, not too many, and nothing else; room for the fixed fields and one byte of a name; a kind.
 unfoldable pub is_frame : List ℕ → Bool
@@ -61,17 +67,12 @@ word_count s = (length s - (76 + 2 * name_length s)) / 16
 unfoldable pub words_of : List ℕ → List ℕ
 words_of s = tabulate (word_count s) (λ k. number_at s (76 + 2 * name_length s + 16 * k) 16)
 
-abbrev pub no_frame : Frame
-no_frame = record { refusal = bad_line; kind = 0; positions = 0; topology = 0; argument = 0; transactions = 0; span = 0; slots = 0; loss = 0; abort = 0; seed = 0; name = 0; words = 0 }
-
 -- The fields in their order: kind, positions, topology, argument, transactions, a byte each; repeats or listen
 -- timeout, and round slots, 4 bytes each; loss, abort probability and seed, 8 bytes each; then the name's length.
-unfoldable pub frame_of : List ℕ → Frame
-frame_of s =
-    either (is_frame s)
-    (record {
-      refusal = 0;
-      kind = number_at s 0 2;
+unfoldable pub fields_of : List ℕ → Frame
+fields_of s =
+    record {
+      kind = kind_of (number_at s 0 2);
       positions = number_at s 2 2;
       topology = number_at s 4 2;
       argument = number_at s 6 2;
@@ -83,5 +84,10 @@ frame_of s =
       seed = number_at s 58 16;
       name = name_length s;
       words = word_count s;
-    })
-    no_frame
+    }
+
+abbrev pub no_frame : Result Frame Refusal
+no_frame = Err BadLine
+
+unfoldable pub frame_of : List ℕ → Result Frame Refusal
+frame_of s = either (is_frame s) (Ok (fields_of s)) no_frame

@@ -1,15 +1,18 @@
 -- RULES 13.3, 13.4 and 13.7, and refusals 2 to 7 of RULES 15: the room that a frame asks for, the calls that it makes,
 -- and what comes of them. Assumes nothing: these are definitions.
-use Rattle.std.specs.Prelude.{ℕ, ◌+◌, ◌%◌, Bool, not, ◌||◌, ◌&&◌, List, eqb, leb}
+use Rattle.std.specs.Prelude.{ℕ, ◌+◌, ◌%◌, Bool, true, not, ◌&&◌, Result, Ok, Err, List, eqb, leb}
 use Rattle.std.specs.Float.{binary64}
 use Rattle.std.specs.Float.Ieee.{of_bits}
 use Rattle.loops.specs.Pick.{either}
 use Rattle.loops.specs.Upto.{upto}
 use Rattle.loops.specs.Runs.{runs}
 use Rattle.limits.specs.Limits.{positions, last_slot, row_cells}
-use Rattle.limits.specs.Refusals.{bad_positions}
+use Rattle.limits.specs.declared.refusals.Refusal.{Refusal}
+use Rattle.limits.specs.declared.refusals.Refusal.TheVariants.{BadLine, BadPositions, BadLinks, BadLoss, NoRepeats}
+use Rattle.limits.specs.declared.refusals.Refusal.TheVariants.{NoInterval, ManyTransactions, NoPosition, BadPacket}
+use Rattle.limits.specs.declared.refusals.Refusal.TheVariants.{NoFit, OtherKind, NoProposal, NoTerm, Stopped, TooLong}
+use Rattle.limits.specs.declared.refusals.Refusal.TheVariants.{WordsShort, RowsShort}
 use Rattle.graph.specs.Links.{topology_of}
-use Rattle.graph.specs.declared.network.Built.{Built}
 use Rattle.graph.specs.declared.network.NetworkGraph.{NetworkGraph}
 use Rattle.engines.specs.Network.{new_network}
 use Rattle.engines.specs.declared.settings.Settings.{Settings}
@@ -25,12 +28,38 @@ use Rattle.room.specs.declared.room.RoomConf.{RoomConf}
 use Rattle.room.specs.declared.room.Asked.{Asked}
 use Rattle.room.specs.declared.capture_calls.Captured.{Captured}
 use Rattle.frame.specs.declared.line.Frame.{Frame}
-use Rattle.frame.specs.declared.play.Outcome.{Outcome}
+
+-- ---- refusals that the layers below tell by their numbers
+
+abbrev pub refusal_of : ℕ → Refusal
+refusal_of k =
+    either (eqb k 1) BadLine
+    (either (eqb k 2) BadPositions
+    (either (eqb k 3) BadLinks
+    (either (eqb k 4) BadLoss
+    (either (eqb k 5) NoRepeats
+    (either (eqb k 6) NoInterval
+    (either (eqb k 7) ManyTransactions
+    (either (eqb k 8) NoPosition
+    (either (eqb k 9) BadPacket
+    (either (eqb k 10) NoFit
+    (either (eqb k 11) OtherKind
+    (either (eqb k 12) NoProposal
+    (either (eqb k 13) NoTerm
+    (either (eqb k 14) Stopped
+    (either (eqb k 15) TooLong
+    (either (eqb k 16) WordsShort RowsShort)))))))))))))))
+
+-- the value beside such a number, unless that tells a refusal
+abbrev pub told : {A : Type 0} → ℕ → A → Result A Refusal
+told k a = either (eqb k 0) (Ok a) (Err (refusal_of k))
+
+-- what is made of a value, unless what should give it was refused
+abbrev pub unless_refused : {A B : Type 0} → (A → Result B Refusal) → Result A Refusal → Result B Refusal
+unless_refused call (Ok s) = call s
+unless_refused call (Err k) = Err k
 
 -- ---- the room
-
-abbrev pub kind_of : ℕ → RoomKind
-kind_of k = either (eqb k 1) kinds.Pipeline kinds.Capture
 
 -- Loss and abort probability are given by their bits. Each kind of room reads its own of repeats and listen timeout,
 -- and only a pipeline room asks whether its slots are given.
@@ -50,7 +79,7 @@ settings_of f =
 unfoldable pub asked_of : Frame → NetworkGraph → Asked
 asked_of f g =
     record {
-      kind = kind_of f.kind;
+      kind = f.kind;
       graph = g;
       settings = settings_of f;
       transactions = f.transactions;
@@ -62,77 +91,78 @@ asked_of f g =
 -- ---- the calls of a capture room, on the parts that they move: each gets what the one before it handed back, and the
 -- lent buffer holds one row
 
--- the call, unless one before it was refused
-abbrev pub unless_refused : (Captured → Captured) → Captured → Captured
-unless_refused call s = either (eqb s.refusal 0) (call s) s
-
-unfoldable pub proposing : RoomConf → ℕ → Captured → Captured
+unfoldable pub proposing : RoomConf → ℕ → Captured → Result Captured Refusal
 proposing conf v s =
     let p = propose_part conf s.part v in
-    record { refusal = p.refusal; cursor = s.cursor; used = s.used; network = s.network; part = p.part }
+    told p.refusal (record { refusal = s.refusal; cursor = s.cursor; used = s.used; network = s.network; part = p.part })
 
-unfoldable pub capturing : List ℕ → RoomConf → Captured → Captured
-capturing ws conf s = capture_part ws row_cells s.used conf s.network s.part s.cursor
+unfoldable pub capturing : List ℕ → RoomConf → Captured → Result Captured Refusal
+capturing ws conf s =
+    let r = capture_part ws row_cells s.used conf s.network s.part s.cursor in
+    told r.refusal r
 
 -- the positions take turns in proposing, and each proposal gets one round
-unfoldable pub capture_turn : List ℕ → RoomConf → ℕ → Captured → Captured
-capture_turn ws conf k s = unless_refused (capturing ws conf) (unless_refused (proposing conf (k % positions_of conf)) s)
+unfoldable pub capture_turn : List ℕ → RoomConf → ℕ → Captured → Result Captured Refusal
+capture_turn ws conf k s = unless_refused (capturing ws conf) (proposing conf (k % positions_of conf) s)
 
 -- as opened
 abbrev pub new_captured : Captured
 new_captured = record { refusal = 0; cursor = 0; used = 0; network = new_network; part = new_capture 0 }
 
 -- A capture room takes its proposals.
-unfoldable pub play_capture : ℕ → List ℕ → RoomConf → Captured
-play_capture t ws conf = upto t (capture_turn ws conf) new_captured
+unfoldable pub play_capture : ℕ → List ℕ → RoomConf → Result Captured Refusal
+play_capture t ws conf = upto t (λ k. unless_refused (capture_turn ws conf k)) (Ok new_captured)
 
 -- ---- the rounds of a pipeline room
 
-unfoldable pub pipeline_turn : List ℕ → RoomConf → PipelineAnswer → PipelineAnswer
-pipeline_turn ws conf s = pipeline_part ws row_cells s.used conf s.network s.part s.cursor
+unfoldable pub pipeline_turn : List ℕ → RoomConf → PipelineAnswer → Result PipelineAnswer Refusal
+pipeline_turn ws conf s =
+    let r = pipeline_part ws row_cells s.used conf s.network s.part s.cursor in
+    told r.refusal r
 
-unfoldable pub is_done : PipelineAnswer → Bool
-is_done s = not (eqb s.refusal 0) || s.part.stop
+abbrev pub is_done : Result PipelineAnswer Refusal → Bool
+is_done (Ok s) = s.part.stop
+is_done (Err k) = true
 
 abbrev pub new_ran : PipelineAnswer
 new_ran = record { refusal = 0; cursor = 0; used = 0; network = new_network; part = new_part }
 
 -- A pipeline room runs until it has stopped: the round of number T + 1001 stops it if none before it does, so that T +
 -- 1002 rounds are always enough (Stopping.antt).
-unfoldable pub play_pipeline : ℕ → List ℕ → RoomConf → PipelineAnswer
-play_pipeline t ws conf = runs is_done (pipeline_turn ws conf) (t + 1002) new_ran
+unfoldable pub play_pipeline : ℕ → List ℕ → RoomConf → Result PipelineAnswer Refusal
+play_pipeline t ws conf = runs is_done (unless_refused (pipeline_turn ws conf)) (t + 1002) (Ok new_ran)
 
--- ---- what comes of them
+-- ---- what comes of them: the bytes sent over all rounds, or the refusal
 
-abbrev pub refused_by : ℕ → Outcome
-refused_by k = record { refusal = k; sent = 0 }
+abbrev pub capture_end : Captured → Result ℕ Refusal
+capture_end s = Ok s.network.bytes_sent
 
--- the bytes sent over all rounds, or the number of the refused call
-unfoldable pub end_of : ℕ → ℕ → Outcome
-end_of refusal sent = either (eqb refusal 0) (record { refusal = 0; sent = sent }) (refused_by refusal)
+abbrev pub pipeline_end : PipelineAnswer → Result ℕ Refusal
+pipeline_end s = Ok s.network.bytes_sent
 
-abbrev pub capture_end : Captured → Outcome
-capture_end s = end_of s.refusal s.network.bytes_sent
+abbrev pub play_as : RoomKind → ℕ → List ℕ → RoomConf → Result ℕ Refusal
+play_as kinds.Pipeline t ws conf = unless_refused pipeline_end (play_pipeline t ws conf)
+play_as kinds.Capture t ws conf = unless_refused capture_end (play_capture t ws conf)
 
-abbrev pub pipeline_end : PipelineAnswer → Outcome
-pipeline_end s = end_of s.refusal s.network.bytes_sent
+abbrev pub play_of : Frame → List ℕ → RoomConf → Result ℕ Refusal
+play_of f ws conf = play_as f.kind f.transactions ws conf
 
-unfoldable pub play_of : Frame → List ℕ → RoomConf → Outcome
-play_of f ws conf =
-    either (eqb f.kind 1) (pipeline_end (play_pipeline f.transactions ws conf)) (capture_end (play_capture f.transactions ws conf))
+-- what the room goes by, if it is accepted
+abbrev pub accepted_by : Asked → Result RoomConf Refusal
+accepted_by a = told (open_refusal a) (conf_of a)
 
 -- with the links of a topology
-unfoldable pub played_in : Frame → List ℕ → NetworkGraph → Outcome
-played_in f ws g =
-    let k = open_refusal (asked_of f g) in
-    either (eqb k 0) (play_of f ws (conf_of (asked_of f g))) (refused_by k)
+unfoldable pub played_in : Frame → List ℕ → NetworkGraph → Result ℕ Refusal
+played_in f ws g = unless_refused (play_of f ws) (accepted_by (asked_of f g))
 
-unfoldable pub linked_by : Frame → List ℕ → Built → Outcome
-linked_by f ws b = either (eqb b.refusal 0) (played_in f ws b.graph) (refused_by b.refusal)
+abbrev pub links_of : Frame → Result NetworkGraph Refusal
+links_of f =
+    let b = topology_of f.topology f.positions f.argument in
+    told b.refusal b.graph
+
+abbrev pub linked_by : Frame → List ℕ → Result NetworkGraph Refusal → Result ℕ Refusal
+linked_by f ws b = unless_refused (played_in f ws) b
 
 -- The lowest number wins: 2, of positions outside 2 to 64; 3 (the links); 4, 5 and 7 (the opening); then the calls.
-unfoldable pub played_of : Frame → List ℕ → Outcome
-played_of f ws =
-    either (leb 2 f.positions && leb f.positions positions)
-    (linked_by f ws (topology_of f.topology f.positions f.argument))
-    (refused_by bad_positions)
+unfoldable pub played_of : Frame → List ℕ → Result ℕ Refusal
+played_of f ws = either (leb 2 f.positions && leb f.positions positions) (linked_by f ws (links_of f)) (Err BadPositions)

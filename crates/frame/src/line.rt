@@ -1,36 +1,34 @@
 // RULES 13.1 and 13.2. A frame line's digits and fields: what refusal 1 is about.
 ghost use Rattle.std.specs.Prelude.{true, ◌≡◌, ◌+◌, ◌^◌, ◌<◌, ◌≤◌, length, get_or};
-ghost use Rattle.frame.specs.Lines.{is_hex, digit_of, number_at, all_hex, name_byte, name_fits, has_name, is_kind, name_length, is_frame, word_count, frame_of};
+ghost use Rattle.frame.specs.Lines.{is_hex, digit_of, number_at, all_hex, name_byte, name_fits, has_name, is_kind, kind_of, name_length, is_frame, word_count, fields_of, frame_of};
 
 use crate::bounds::DIGITS;
-use limits::refusals;
+use limits::refusals::Refusal;
+use room::room::RoomKind;
 
-// The fields of a frame line, as numbers; all 0 if the line is refused.
+// The fields of a frame line: loss and abort probability by their bits, the length of the name, and how many words
+// stand behind it.
 #[derive(Clone, Copy)]
 pub struct Frame {
-    pub refusal: u64,
-    pub kind: u64,
-    pub positions: u64,
-    pub topology: u64,
-    pub argument: u64,
-    pub transactions: u64,
-    pub span: u64,
-    pub slots: u64,
+    pub kind: RoomKind,
+    pub positions: u8,
+    pub topology: u8,
+    pub argument: u8,
+    pub transactions: u8,
+    pub span: u32,
+    pub slots: u32,
     pub loss: u64,
     pub abort: u64,
     pub seed: u64,
-    pub name: usize,
+    pub name: u8,
     pub words: usize,
 }
 
+// Lower case is no digit of a frame, so std's `is_ascii_hexdigit` takes too much.
 fn is_hex(b: u8) -> bool
     ensures { result ≡ is_hex b }
 {
-    match b {
-        48..=57 => true,
-        65..=70 => true,
-        _ => false,
-    }
+    matches!(b, b'0'..=b'9' | b'A'..=b'F')
 }
 
 // The value of a digit; 0 for a byte that is none.
@@ -38,44 +36,51 @@ fn digit(b: u8) -> u64
     ensures { result ≡ digit_of b }
 {
     match b {
-        48..=57 => (b - 48) as u64,
-        65..=70 => (b - 55) as u64,
+        b'0'..=b'9' => (b - b'0') as u64,
+        b'A'..=b'F' => (b - b'A' + 10) as u64,
         _ => 0,
     }
 }
 
-fn digit_at(s: &[u8], i: usize) -> u64
-    ensures { result ≡ digit_of (get_or s.now i 0) }
-{
-    if i < s.len() {
-        return digit(s[i]);
-    }
-    0
-}
-
 // The number that c digits from place i on are, the highest first.
-pub(crate) fn number_at(s: &[u8], i: usize, c: usize) -> u64
+#[tactic(auto, using(crate::proofs::Digits::number_none, crate::proofs::Digits::number_room, crate::proofs::Digits::number_more, crate::proofs::Digits::digit_lt))]
+fn number_at(s: &[u8], i: usize, c: usize) -> u64
     requires { (c ≤ 16) × (i < 2 ^ 32) }
     ensures { result ≡ number_at s.now i c }
 {
     let mut v: u64 = 0;
-    let mut k: usize = 0;
-    while k < c {
-        v = v * 16 + digit_at(s, i + k);
-        k += 1;
+    for k in 0..c {
+        v = v * 16 + digit(s.get(i + k).copied().unwrap_or(0));
     }
     v
 }
 
+// The number that two digits are.
+#[tactic(auto, using(crate::proofs::Digits::byte_lt))]
+pub(crate) fn byte_at(s: &[u8], i: usize) -> u8
+    requires { i < 2 ^ 32 }
+    ensures { result ≡ number_at s.now i 2 }
+{
+    number_at(s, i, 2) as u8
+}
+
+// The number that eight digits are.
+#[tactic(auto, using(crate::proofs::Digits::four_bytes_lt))]
+fn four_bytes_at(s: &[u8], i: usize) -> u32
+    requires { i < 2 ^ 32 }
+    ensures { result ≡ number_at s.now i 8 }
+{
+    number_at(s, i, 8) as u32
+}
+
 // All bytes are looked at, also behind a bad one: a loop without a branch takes many at once.
+#[tactic(auto, using(crate::proofs::Digits::hex_none, crate::proofs::Digits::hex_more, crate::proofs::Digits::hex_all))]
 fn all_hex(s: &[u8]) -> bool
     ensures { result ≡ all_hex s.now }
 {
     let mut good = true;
-    let mut i: usize = 0;
-    while i < s.len() {
-        good = good & is_hex(s[i]);
-        i += 1;
+    for &b in s {
+        good &= is_hex(b);
     }
     good
 }
@@ -90,15 +95,14 @@ fn value(b: u8) -> u64
 }
 
 // The word whose 16 digits begin at place i.
+#[tactic(auto, using(crate::proofs::Digits::number_none, crate::proofs::Digits::number_room, crate::proofs::Digits::number_more, crate::proofs::Digits::digit_lt, crate::proofs::Digits::hex_at))]
 pub(crate) fn word_at(s: &[u8], i: usize) -> u64
     requires { (i + 16 ≤ length s.now) × (all_hex s.now ≡ true) }
     ensures { result ≡ number_at s.now i 16 }
 {
     let mut v: u64 = 0;
-    let mut k: usize = 0;
-    while k < 16 {
+    for k in 0..16 {
         v = v * 16 + value(s[i + k]);
-        k += 1;
     }
     v
 }
@@ -107,38 +111,39 @@ fn is_name_byte(s: &[u8], k: usize) -> bool
     requires { k < 256 }
     ensures { result ≡ name_byte s.now k }
 {
-    let b = number_at(s, 76 + 2 * k, 2);
-    if b < 33 {
-        return false;
-    }
-    b <= 126
+    matches!(byte_at(s, 76 + 2 * k), 33..=126)
 }
 
-fn name_fits(s: &[u8], n: usize) -> bool
-    requires { n ≤ 255 }
+#[tactic(auto, unfolding(crate::specs::Lines::name_fits), using(crate::proofs::Digits::name_none, crate::proofs::Digits::name_more, crate::proofs::Digits::name_bad))]
+fn name_fits(s: &[u8], n: u8) -> bool
     ensures { result ≡ name_fits s.now n }
 {
-    let mut k: usize = 0;
-    while k < n {
+    for k in 0..n as usize {
         if !is_name_byte(s, k) {
             return false;
         }
-        k += 1;
     }
     true
 }
 
 // 1 is a pipeline, 2 a capture room.
-fn is_kind(k: u64) -> bool
+fn is_kind(k: u8) -> bool
     ensures { result ≡ is_kind k }
 {
-    if k == 1 {
-        return true;
+    matches!(k, 1 | 2)
+}
+
+fn kind_of(k: u8) -> RoomKind
+    ensures { result ≡ kind_of k }
+{
+    match k {
+        1 => RoomKind::Pipeline,
+        _ => RoomKind::Capture,
     }
-    k == 2
 }
 
 // Refusal 1: the line is no frame.
+#[tactic(auto, unfolding(crate::specs::Lines::is_frame))]
 fn is_frame(s: &[u8]) -> bool
     ensures { result ≡ is_frame s.now }
 {
@@ -146,71 +151,49 @@ fn is_frame(s: &[u8]) -> bool
     if digits > DIGITS {
         return false;
     }
-    if !all_hex(s) {
-        return false;
-    }
-    if digits < 78 {
-        return false;
-    }
-    if !is_kind(number_at(s, 0, 2)) {
-        return false;
-    }
-    has_name(s)
+    all_hex(s) && 78 <= digits && is_kind(byte_at(s, 0)) && has_name(s)
 }
 
 // What stands behind the fixed fields: a name, and whole words.
+#[tactic(auto, unfolding(crate::specs::Lines::has_name))]
 fn has_name(s: &[u8]) -> bool
     ensures { result ≡ has_name s.now }
 {
     let n = name_length(s);
-    if n == 0 {
-        return false;
-    }
-    if s.len() < 76 + 2 * n {
-        return false;
-    }
-    if !name_fits(s, n) {
-        return false;
-    }
-    (s.len() - (76 + 2 * n)) % 16 == 0
+    let end = 76 + 2 * n as usize;
+    0 < n && end <= s.len() && name_fits(s, n) && (s.len() - end) % 16 == 0
 }
 
-pub(crate) fn name_length(s: &[u8]) -> usize
-    ensures { (result ≡ name_length s.now) × (result ≤ 255) }
+#[tactic(auto, unfolding(crate::specs::Lines::name_length))]
+pub(crate) fn name_length(s: &[u8]) -> u8
+    ensures { result ≡ name_length s.now }
 {
-    number_at(s, 74, 2) as usize
+    byte_at(s, 74)
 }
 
 // The fields of a line. The digits of a bad line are not read.
-pub fn read_frame(s: &[u8]) -> Frame
+#[tactic(auto, unfolding(crate::specs::Lines::frame_of))]
+pub fn read_frame(s: &[u8]) -> Result<Frame, Refusal>
     ensures { result ≡ frame_of s.now }
 {
     if !is_frame(s) {
-        return Frame {
-            refusal: refusals::BAD_LINE,
-            kind: 0,
-            positions: 0,
-            topology: 0,
-            argument: 0,
-            transactions: 0,
-            span: 0,
-            slots: 0,
-            loss: 0,
-            abort: 0,
-            seed: 0,
-            name: 0,
-            words: 0,
-        };
+        return Err(Refusal::BadLine);
     }
+    Ok(fields_of(s))
+}
+
+#[tactic(auto, unfolding(crate::specs::Lines::fields_of))]
+fn fields_of(s: &[u8]) -> Frame
+    ensures { result ≡ fields_of s.now }
+{
     Frame {
-        refusal: 0,
-        kind: number_at(s, 0, 2),
-        positions: number_at(s, 2, 2),
-        topology: number_at(s, 4, 2),
-        argument: number_at(s, 6, 2),
-        transactions: number_at(s, 8, 2),
-        span: number_at(s, 10, 8),
-        slots: number_at(s, 18, 8),
+        kind: kind_of(byte_at(s, 0)),
+        positions: byte_at(s, 2),
+        topology: byte_at(s, 4),
+        argument: byte_at(s, 6),
+        transactions: byte_at(s, 8),
+        span: four_bytes_at(s, 10),
+        slots: four_bytes_at(s, 18),
         loss: number_at(s, 26, 16),
         abort: number_at(s, 42, 16),
         seed: number_at(s, 58, 16),
@@ -220,12 +203,9 @@ pub fn read_frame(s: &[u8]) -> Frame
 }
 
 // How many words stand behind the name.
+#[tactic(auto, unfolding(crate::specs::Lines::word_count))]
 fn word_count(s: &[u8]) -> usize
     ensures { result ≡ word_count s.now }
 {
-    let n = name_length(s);
-    if s.len() < 76 + 2 * n {
-        return 0;
-    }
-    (s.len() - (76 + 2 * n)) / 16
+    s.len().saturating_sub(76 + 2 * name_length(s) as usize) / 16
 }

@@ -1,25 +1,54 @@
 // RULES 13.3 and 13.4. The room that a frame asks for, and the calls that it makes.
-ghost use Rattle.std.specs.Prelude.{◌≡◌, not, ◌||◌, eqb, ◌<◌, ◌^◌};
+ghost use Rattle.std.specs.Prelude.{◌≡◌, ◌<◌};
 ghost use Rattle.std.specs.Float.{binary64};
 ghost use Rattle.std.specs.Float.Ieee.{of_bits, nan_bits};
 ghost use Rattle.room.specs.Kinds.{positions_of};
-ghost use Rattle.frame.specs.Play.{kind_of, settings_of, asked_of, unless_refused, proposing, capturing, capture_turn, new_captured, play_capture, pipeline_turn, new_ran, play_pipeline, refused_by, end_of, play_of, played_in, played_of};
+ghost use Rattle.frame.specs.Play.{refusal_of, told, settings_of, asked_of, proposing, capturing, capture_turn, new_captured, play_capture, pipeline_turn, new_ran, play_pipeline, play_of, accepted_by, played_in, links_of, played_of};
 
 use crate::line::Frame;
 use engines::network::Network;
 use engines::settings::Settings;
 use graph::network::NetworkGraph;
-use limits::refusals;
+use limits::refusals::Refusal;
 use pipeline::pipeline::{PipelineAnswer, PipelinePart};
 use room::capture_calls::{CapturePart, Captured};
 use room::room::{Asked, Room, RoomConf, RoomKind};
 use room::{capture_calls, pipeline_calls, room as rooms};
 
-// The number of the first refusal; if there is none 0, and the bytes sent.
-#[derive(Clone, Copy)]
-pub struct Outcome {
-    pub refusal: u64,
-    pub sent: u64,
+// ---- refusals that the layers below tell by their numbers
+
+fn refusal_of(number: u64) -> Refusal
+    ensures { result ≡ refusal_of number }
+{
+    match number {
+        1 => Refusal::BadLine,
+        2 => Refusal::BadPositions,
+        3 => Refusal::BadLinks,
+        4 => Refusal::BadLoss,
+        5 => Refusal::NoRepeats,
+        6 => Refusal::NoInterval,
+        7 => Refusal::ManyTransactions,
+        8 => Refusal::NoPosition,
+        9 => Refusal::BadPacket,
+        10 => Refusal::NoFit,
+        11 => Refusal::OtherKind,
+        12 => Refusal::NoProposal,
+        13 => Refusal::NoTerm,
+        14 => Refusal::Stopped,
+        15 => Refusal::TooLong,
+        16 => Refusal::WordsShort,
+        _ => Refusal::RowsShort,
+    }
+}
+
+// The value that stands beside such a number, unless it is refused.
+fn told<T: Drop>(number: u64, value: T) -> Result<T, Refusal>
+    ensures { result ≡ told number value }
+{
+    if number != 0 {
+        return Err(refusal_of(number));
+    }
+    Ok(value)
 }
 
 // ---- the room
@@ -45,35 +74,26 @@ fn float_of(bits: u64) -> f64
     f64::from_bits(bits)
 }
 
-fn kind_of(k: u64) -> RoomKind
-    ensures { result ≡ kind_of k }
-{
-    if k == 1 {
-        return RoomKind::Pipeline;
-    }
-    RoomKind::Capture
-}
-
+#[tactic(auto, unfolding(crate::specs::Play::settings_of))]
 fn settings_of(f: Frame) -> Settings
-    requires { f.span < 2 ^ 32 }
     ensures { result ≡ settings_of f }
 {
     Settings {
         loss_rate: float_of(f.loss),
         abort_probability: float_of(f.abort),
         seed: f.seed,
-        listen_timeout: f.span,
-        flood_repeats: f.span as u32,
-        round_slots: f.slots,
-        slots_given: f.slots != Room::LAST_SLOT,
+        listen_timeout: f.span as u64,
+        flood_repeats: f.span,
+        round_slots: f.slots as u64,
+        slots_given: f.slots as u64 != Room::LAST_SLOT,
     }
 }
 
+#[tactic(auto, unfolding(crate::specs::Play::asked_of))]
 fn asked_of(f: Frame, graph: NetworkGraph) -> Asked
-    requires { f.span < 2 ^ 32 }
     ensures { result ≡ asked_of f graph }
 {
-    let kind = kind_of(f.kind);
+    let kind = f.kind;
     let settings = settings_of(f);
     Asked {
         kind,
@@ -88,39 +108,35 @@ fn asked_of(f: Frame, graph: NetworkGraph) -> Asked
 
 // ---- the calls of a capture room. They move its network and its own part: a frame needs nothing else of a room.
 
-fn propose_next(conf: RoomConf, v: usize, s: Captured) -> Captured
-    ensures { result ≡ unless_refused (proposing conf v) s }
+#[tactic(auto, unfolding(crate::specs::Play::proposing))]
+fn propose(conf: RoomConf, v: usize, s: Captured) -> Result<Captured, Refusal>
+    ensures { result ≡ proposing conf v s }
 {
-    if s.refusal != 0 {
-        return s;
-    }
     let before = s.part;
     let p = capture_calls::propose(conf, before, v);
-    let part = p.part;
     let mut q = s;
-    q.refusal = p.refusal;
-    q.part = part;
-    q
+    q.part = p.part;
+    told(p.refusal, q)
 }
 
 // The row that a round writes is not read.
-fn capture_next(words: &[u64], conf: RoomConf, s: Captured) -> Captured
-    ensures { result ≡ unless_refused (capturing words.now conf) s }
+#[tactic(auto, unfolding(crate::specs::Play::capturing))]
+fn capture_next(words: &[u64], conf: RoomConf, s: Captured) -> Result<Captured, Refusal>
+    ensures { result ≡ capturing words.now conf s }
 {
-    if s.refusal != 0 {
-        return s;
-    }
     let w = s.network;
     let part = s.part;
     let mut row = [0u64; 5];
-    capture_calls::capture_round(words, s.cursor, &mut row, s.used, conf, w, part)
+    let next = capture_calls::capture_round(words, s.cursor, &mut row, s.used, conf, w, part);
+    told(next.refusal, next)
 }
 
-fn capture_turn(words: &[u64], conf: RoomConf, k: usize, s: Captured) -> Captured
+#[tactic(auto, unfolding(crate::specs::Play::capture_turn))]
+fn capture_turn(words: &[u64], conf: RoomConf, k: usize, s: Captured) -> Result<Captured, Refusal>
     requires { 0 < positions_of conf }
     ensures { result ≡ capture_turn words.now conf k s }
 {
-    let p = propose_next(conf, k % conf.round.graph.n, s);
+    let p = propose(conf, k % conf.round.graph.n, s)?;
     capture_next(words, conf, p)
 }
 
@@ -136,37 +152,33 @@ fn new_captured() -> Captured
     }
 }
 
-fn play_capture(words: &[u64], conf: RoomConf, t: usize) -> Captured
+#[tactic(auto, using(crate::proofs::Playing::captured_none, crate::proofs::Playing::captured_more, crate::proofs::Playing::captured_refused))]
+fn play_capture(words: &[u64], conf: RoomConf, t: usize) -> Result<Captured, Refusal>
     requires { 0 < positions_of conf }
     ensures { result ≡ play_capture t words.now conf }
 {
     let mut s = new_captured();
-    let mut k: usize = 0;
-    while k < t {
-        s = capture_turn(words, conf, k, s);
-        k += 1;
+    for k in 0..t {
+        s = capture_turn(words, conf, k, s)?;
     }
-    s
+    Ok(s)
 }
 
 // ---- the rounds of a pipeline room
 
-fn pipeline_turn(words: &[u64], conf: RoomConf, s: PipelineAnswer) -> PipelineAnswer
+#[tactic(auto, unfolding(crate::specs::Play::pipeline_turn))]
+fn pipeline_turn(
+    words: &[u64],
+    conf: RoomConf,
+    s: PipelineAnswer,
+) -> Result<PipelineAnswer, Refusal>
     ensures { result ≡ pipeline_turn words.now conf s }
 {
     let w = s.network;
     let part = s.part;
     let mut row = [0u64; 5];
-    pipeline_calls::pipeline_round(words, s.cursor, &mut row, s.used, conf, w, part)
-}
-
-fn is_done(refusal: u64, stop: bool) -> bool
-    ensures { result ≡ (not (eqb refusal 0) || stop) }
-{
-    if refusal != 0 {
-        return true;
-    }
-    stop
+    let next = pipeline_calls::pipeline_round(words, s.cursor, &mut row, s.used, conf, w, part);
+    told(next.refusal, next)
 }
 
 fn new_ran() -> PipelineAnswer
@@ -181,81 +193,70 @@ fn new_ran() -> PipelineAnswer
     }
 }
 
-fn play_pipeline(words: &[u64], conf: RoomConf, t: usize) -> PipelineAnswer
+fn play_pipeline(words: &[u64], conf: RoomConf, t: usize) -> Result<PipelineAnswer, Refusal>
     requires { t < 256 }
     ensures { result ≡ play_pipeline t words.now conf }
 {
     let mut s = new_ran();
-    let mut left = t + 1002;
-    while 0 < left {
-        if is_done(s.refusal, s.part.stop) {
-            return s;
+    for k in 0..t + 1002 {
+        if s.part.stop {
+            return Ok(s);
         }
-        s = pipeline_turn(words, conf, s);
-        left -= 1;
+        s = pipeline_turn(words, conf, s)?;
     }
-    s
+    Ok(s)
 }
 
 // ---- what comes of them
 
-fn refused_by(refusal: u64) -> Outcome
-    ensures { result ≡ refused_by refusal }
-{
-    Outcome { refusal, sent: 0 }
-}
-
-fn end_of(refusal: u64, sent: u64) -> Outcome
-    ensures { result ≡ end_of refusal sent }
-{
-    if refusal != 0 {
-        return refused_by(refusal);
-    }
-    Outcome { refusal: 0, sent }
-}
-
-fn play(f: Frame, words: &[u64], conf: RoomConf) -> Outcome
-    requires { (0 < positions_of conf) × (f.transactions < 256) }
+// The bytes sent.
+fn play(f: Frame, words: &[u64], conf: RoomConf) -> Result<u64, Refusal>
+    requires { 0 < positions_of conf }
     ensures { result ≡ play_of f words.now conf }
 {
     let t = f.transactions as usize;
-    if f.kind == 1 {
-        let p = play_pipeline(words, conf, t);
-        return end_of(p.refusal, p.network.bytes_sent);
+    match f.kind {
+        RoomKind::Pipeline => Ok(play_pipeline(words, conf, t)?.network.bytes_sent),
+        RoomKind::Capture => Ok(play_capture(words, conf, t)?.network.bytes_sent),
     }
-    let s = play_capture(words, conf, t);
-    end_of(s.refusal, s.network.bytes_sent)
 }
 
-fn play_in(f: Frame, words: &[u64], graph: NetworkGraph) -> Outcome
-    requires { (f.transactions < 256) × (f.span < 2 ^ 32) }
+fn accepted(asked: Asked) -> Result<RoomConf, Refusal>
+    ensures { result ≡ accepted_by asked }
+{
+    told(rooms::open_refusal(asked), rooms::conf_of(asked))
+}
+
+#[tactic(auto, unfolding(crate::specs::Play::played_in), using(room::proofs::Calling::opened_size))]
+fn play_in(f: Frame, words: &[u64], graph: NetworkGraph) -> Result<u64, Refusal>
     ensures { result ≡ played_in f words.now graph }
 {
-    let asked = asked_of(f, graph);
-    let refusal = rooms::open_refusal(asked);
-    if refusal != 0 {
-        return refused_by(refusal);
-    }
-    let conf = rooms::conf_of(asked);
+    let conf = accepted(asked_of(f, graph))?;
     play(f, words, conf)
 }
 
+fn links_of(f: Frame) -> Result<NetworkGraph, Refusal>
+    ensures { result ≡ links_of f }
+{
+    let b = NetworkGraph::from_topology(
+        f.topology as u64,
+        f.positions as usize,
+        f.argument as usize,
+    );
+    told(b.refusal, b.graph)
+}
+
 // Refusals 2 and 3, and then the room.
-pub(crate) fn play_frame(f: Frame, words: &[u64]) -> Outcome
-    requires { (f.transactions < 256) × (f.span < 2 ^ 32) }
+#[tactic(auto, unfolding(crate::specs::Play::played_of))]
+pub(crate) fn play_frame(f: Frame, words: &[u64]) -> Result<u64, Refusal>
     ensures { result ≡ played_of f words.now }
 {
     if f.positions < 2 {
-        return refused_by(refusals::BAD_POSITIONS);
+        return Err(Refusal::BadPositions);
     }
-    if f.positions > Room::POSITIONS as u64 {
-        return refused_by(refusals::BAD_POSITIONS);
+    if Room::POSITIONS < f.positions as usize {
+        return Err(Refusal::BadPositions);
     }
-    let n = f.positions as usize;
-    let b = NetworkGraph::from_topology(f.topology, n, f.argument as usize);
-    if b.refusal != 0 {
-        return refused_by(b.refusal);
-    }
-    let g = b.graph;
-    play_in(f, words, g)
+    let graph = links_of(f)?;
+    play_in(f, words, graph)
 }

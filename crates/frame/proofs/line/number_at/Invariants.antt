@@ -1,10 +1,6 @@
 use mathlib.Core.Path.{◌≡◌}
-use Prim.Native.Nat.{◌≤◌, ◌-◌}
 use Rattle.frame.specs.Lines.{number_at}
 use Rattle.frame.proofs.line.number_at.Given as goal
 
 abbrev pub invariant-loop-k : goal.invariant-loop-k
-invariant-loop-k l = (l.k ≤ l.c) × (l.v ≡ number_at l.s l.i l.k)
-
-abbrev pub decreases-loop-k : goal.decreases-loop-k
-decreases-loop-k l = l.c - l.k
+invariant-loop-k l = l.v ≡ number_at l.s l.i l.k

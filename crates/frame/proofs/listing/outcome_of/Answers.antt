@@ -1,24 +1,31 @@
-use Rattle.frame.proofs.Playing.{kept, no_frame_lem, a_frame, words_left}
+use mathlib.Core.Path.{sym, ◌∙◌}
+use Rattle.frame.specs.Listing.{outcome_of}
+use lib.Seq.{length-take-le}
 use native.Mathlib.Omega.{arith}
+use Rattle.frame.proofs.Playing.{kept, no_words, a_frame, words_left}
+use Rattle.std.proofs.lemmas.Grind.{common_steps}
 use Rattle.frame.proofs.listing.outcome_of.Goals as goal
 
-pub returns-then-f-ne0 : goal.returns-then-f-ne0
-returns-then-f-ne0 c = no_frame_lem c.args.s.now c.args.words.now c.read_frame-f.ensures c.if-f-ne0.true
-
-pub overflow_mul-f : goal.overflow_mul-f
-overflow_mul-f c = omega (arith, (kept c.args.s.now c.read_frame-f.ensures c.if-f-ne0.false).short)
-
-pub overflow_add-f : goal.overflow_add-f
-overflow_add-f c = omega (arith, (kept c.args.s.now c.read_frame-f.ensures c.if-f-ne0.false).short)
+pub returns-in_err-f : goal.returns-in_err-f
+unfolding outcome_of
+returns-in_err-f c = (grind (arith, common_steps), no_words c.args.s.now c.args.words.now (sym (c.in_err-f.was) ∙ c.read_frame.ensures))
 
 pub read_words-requires : goal.read_words-requires
-read_words-requires c = ((kept c.args.s.now c.read_frame-f.ensures c.if-f-ne0.false).inside, omega (arith, (kept c.args.s.now c.read_frame-f.ensures c.if-f-ne0.false).few), (kept c.args.s.now c.read_frame-f.ensures c.if-f-ne0.false).hex)
+read_words-requires c =
+    let k = kept c.args.s.now (sym (c.in_ok-f.was) ∙ c.read_frame.ensures) in
+    (k.inside, omega (arith, k.few), k.hex)
 
 pub slice_bounds-play_frame-end : goal.slice_bounds-play_frame-end
-slice_bounds-play_frame-end c = omega (arith, (kept c.args.s.now c.read_frame-f.ensures c.if-f-ne0.false).few)
+slice_bounds-play_frame-end c =
+    let k = kept c.args.s.now (sym (c.in_ok-f.was) ∙ c.read_frame.ensures) in
+    omega (arith, k.few)
 
-pub play_frame-requires : goal.play_frame-requires
-play_frame-requires c = ((kept c.args.s.now c.read_frame-f.ensures c.if-f-ne0.false).txs, (kept c.args.s.now c.read_frame-f.ensures c.if-f-ne0.false).span)
+pub slice_bounds-play_frame-end-2 : goal.slice_bounds-play_frame-end-2
+slice_bounds-play_frame-end-2 c =
+    let k = kept c.args.s.now (sym c.in_ok-f.was ∙ c.read_frame.ensures) in
+    sym (length-take-le c.in_ok-f.f.words c.read_words.new.words (omega (arith, k.few)))
 
 pub returns : goal.returns
-returns c = (a_frame c.args.s.now c.args.words.now c.read_frame-f.ensures c.if-f-ne0.false c.read_words.ensures c.play_frame.ensures, words_left c.args.s.now c.args.words.now c.read_frame-f.ensures c.if-f-ne0.false c.read_words.ensures)
+returns c =
+    let e = sym (c.in_ok-f.was) ∙ c.read_frame.ensures in
+    (a_frame c.args.s.now c.args.words.now e c.read_words.ensures c.play_frame.ensures, words_left c.args.s.now c.args.words.now e c.read_words.ensures)

@@ -1,5 +1,5 @@
 use Rattle.frame.specs.Listing.{refused_text}
-use Rattle.frame.proofs.Texts.{refused_room}
+use Rattle.frame.proofs.Texts.{refused_room, refused_short}
 use Rattle.texts.specs.Put.{put_then, room_next}
 use Rattle.texts.specs.Decimal.{decimal}
 use native.Mathlib.Omega.{arith}
@@ -10,4 +10,6 @@ put_decimal-requires c = room_next (decimal c.args.refusal) c.put_all-o.ensures 
 
 pub returns : goal.returns
 unfolding refused_text
-returns c = put_then c.put_all-o.ensures c.put_decimal.ensures (refused_room c.args.refusal _ (omega arith) c.requires)
+returns c =
+    let p = put_then c.put_all-o.ensures c.put_decimal.ensures (refused_room c.args.refusal _ (omega arith) c.requires) in
+    (p, omega (arith, p.next, refused_short c.args.refusal (omega arith)))

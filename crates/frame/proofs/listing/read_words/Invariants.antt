@@ -1,5 +1,4 @@
 use mathlib.Core.Path.{◌≡◌}
-use Prim.Native.Nat.{◌≤◌, ◌-◌}
 use lib.ListN.{length}
 use Rattle.loops.specs.Table.{tabulate}
 use Rattle.texts.specs.Put.{Put}
@@ -7,7 +6,4 @@ use Rattle.frame.proofs.Playing.{word_at}
 use Rattle.frame.proofs.listing.read_words.Given as goal
 
 abbrev pub invariant-loop-k : goal.invariant-loop-k
-invariant-loop-k l = (l.k ≤ l.count) × (length l.words ≡ length l.initial.words) × Put l.initial.words 0 (tabulate l.k (word_at l.s l.i)) l.k l.words
-
-abbrev pub decreases-loop-k : goal.decreases-loop-k
-decreases-loop-k l = l.count - l.k
+invariant-loop-k l = (length l.words ≡ length l.initial.words) × Put l.initial.words 0 (tabulate l.k (word_at l.s l.i)) l.k l.words

@@ -1,25 +1,29 @@
-use mathlib.Core.Path.{◌≡◌, refl, sym, ◌∙◌}
-use Rattle.loops.specs.Runs.{runs_none, runs_stop, runs_turn}
-use mathlib.Core.Bool.{not, ◌||◌}
-use lib.Dec.{eqb}
-use Rattle.pipeline.specs.declared.pipeline.PipelineAnswer.{PipelineAnswer}
-use Rattle.frame.specs.Play.{is_done, play_pipeline}
+use mathlib.Core.Path.{◌≡◌, sym, ap, ◌∙◌}
+use Prim.Native.Nat.{ℕ, ◌-◌}
+use Rattle.std.specs.Prelude.{Ok, Err}
+use Rattle.std.proofs.lemmas.Grind.{common_steps}
+use native.Mathlib.Omega.{arith}
+use Rattle.frame.specs.Play.{new_ran, play_pipeline}
+use Rattle.frame.proofs.Playing.{going, going_stop, going_out, going_on, going_refused}
 use Rattle.frame.proofs.play.play_pipeline.Goals as goal
 
-done_is : (s : PipelineAnswer) → is_done s ≡ (not (eqb s.refusal 0) || s.part.stop)
-unfolding is_done
-done_is s = refl
+all : (n : ℕ) → n - 0 ≡ n
+all n = omega arith
 
-pub loop-left-init : goal.loop-left-init
-loop-left-init c = refl
-
-pub returns-then-is_done : goal.returns-then-is_done
+pub loop-k-init : goal.loop-k-init
 unfolding play_pipeline
-returns-then-is_done c = rw (← c.new_ran-s.ensures) (runs_stop _ _ c.loop-left-test.true (done_is _ ∙ sym c.is_done.ensures ∙ c.if-is_done.true) c.loop-left.invariant)
+loop-k-init c = rw c.new_ran-s.ensures (ap (λ (n : ℕ). going c.args.words.now c.args.conf n (Ok new_ran)) (all _))
 
-pub loop-left-preserved : goal.loop-left-preserved
-loop-left-preserved c = runs_turn _ _ c.loop-left-test.true (done_is _ ∙ sym c.is_done.ensures ∙ c.if-is_done.false) c.pipeline_turn-s.ensures c.loop-left.invariant
+pub returns-then-s : goal.returns-then-s
+returns-then-s c = going_stop c.args.words.now c.args.conf _ c.loop-k.s c.if-s.true c.loop-k.invariant
+
+pub returns-in_err-s : goal.returns-in_err-s
+returns-in_err-s c =
+    let refused : c.from_residual.result ≡ Err c.in_err-s.field-0.0 = grind (arith, common_steps) in
+    refused ∙ going_refused c.args.words.now c.args.conf _ c.in_err-s.field-0.0 (going_on c.args.words.now c.args.conf c.loop-k.s c.loop-k-test.true c.if-s.false (sym c.in_err-s.was ∙ c.pipeline_turn.ensures) c.loop-k.invariant)
+
+pub loop-k-preserved : goal.loop-k-preserved
+loop-k-preserved c = going_on c.args.words.now c.args.conf c.loop-k.s c.loop-k-test.true c.if-s.false (sym c.in_ok-s.was ∙ c.pipeline_turn.ensures) c.loop-k.invariant
 
 pub returns : goal.returns
-unfolding play_pipeline
-returns c = rw (← c.new_ran-s.ensures) (runs_none _ _ c.loop-left-test.false c.loop-left.invariant)
+returns c = going_out c.args.words.now c.args.conf c.loop-k-test.false c.loop-k.invariant

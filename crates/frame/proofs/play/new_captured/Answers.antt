@@ -1,4 +1,0 @@
-use Rattle.frame.proofs.play.new_captured.Goals as goal
-
-pub returns : goal.returns
-returns c = rw (c.new-2.ensures, c.new.ensures)
