@@ -238,12 +238,11 @@ fn play_in(f: Frame, words: &[u64], graph: NetworkGraph) -> Result<u64, Refusal>
 fn links_of(f: Frame) -> Result<NetworkGraph, Refusal>
     ensures { result ≡ links_of f }
 {
-    let b = NetworkGraph::from_topology(
+    NetworkGraph::from_topology(
         f.topology as u64,
         f.positions as usize,
         f.argument as usize,
-    );
-    told(b.refusal, b.graph)
+    )
 }
 
 // Refusals 2 and 3, and then the room.
