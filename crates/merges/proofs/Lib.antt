@@ -1,4 +1,3 @@
-pub mod Halves
 pub mod Bitmaps
 pub mod Slips
 pub mod Sources

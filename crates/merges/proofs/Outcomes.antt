@@ -1,18 +1,30 @@
 -- What each outcome says of the positions, and that with its deadlines taken for aborts it is the original program's.
 -- Assumes nothing.
-use Rattle.std.proofs.Common.{◌≡◌, ℕ, ◌+◌, ◌<◌, ◌≤◌, Bool, true, false, ◌&&◌, eqb, ltb, leb, List, get_or, sym, refl, ◌∙◌, arith, ltb-true, lt-ltb, eq-eqb, eqb-true, le-leb}
+use Rattle.std.proofs.Common.{◌≡◌, ℕ, ◌+◌, ◌<◌, ◌≤◌, Bool, true, false, ◌&&◌, ◌||◌, eqb, ltb, leb, List, get_or, sym, refl, ◌∙◌, arith, ltb-true, lt-ltb, eq-eqb, eqb-true, le-leb}
 use Rattle.loops.specs.Pick.{either}
 use Rattle.marks.specs.Marks.{any_of, all_of}
 use Rattle.marks.specs.Sets.{and_true, any_at, any_found, all_at, all_found}
 use Rattle.packets.specs.declared.TwoPcPhase.{TwoPcPhase}
 use Rattle.packets.specs.declared.TwoPcPhase.TheVariants as phases
-use Rattle.merges.specs.Merging.{rank_of, standing_by, standing_of, no_payload, all_hold, any_holds, outcome_of}
+use Rattle.merges.specs.Merging.{rank_of, standing_by, standing_of, goal_of, no_payload, all_hold, any_holds, outcome_of}
 use Rattle.merges.specs.Outcomes.{InPhase, OutcomeSays, OutcomesSay, original_outcome, mapped, MapsToOriginal}
 use Rattle.merges.specs.declared.merging.ProposalOutcome.{ProposalOutcome}
 use Rattle.merges.specs.declared.merging.ProposalOutcome.TheVariants.{Committed, Aborted, TimedOut}
 use Rattle.merges.specs.declared.merging.Held.{Held}
 use Rattle.merges.specs.declared.merging.Held.TheVariants.{Empty, Unreadable, Packet}
 use Rattle.merges.specs.declared.merging.Payload.{Payload}
+
+-- a decision is Committed or Aborted
+pub goal_by_phases : (l : Payload) → goal_of l ≡ (eqb (standing_of l) 2 || eqb (standing_of l) 3)
+unfolding goal_of standing_by rank_of
+goal_by_phases l = by l.packet.phase l.held
+  where
+    by : (f : TwoPcPhase) (h : Held) → ltb 1 (standing_by f h) ≡ (eqb (standing_by f h) 2 || eqb (standing_by f h) 3)
+    by f Empty = refl
+    by f Unreadable = refl
+    by phases.Prepare Packet = refl
+    by phases.Committed Packet = refl
+    by phases.Aborted Packet = refl
 
 -- ---- a standing and what is held
 

@@ -1,7 +1,7 @@
 // RULES 6. Proposing and merging the capture rooms' packets, and the tests of what positions hold: the protocol half
 // of two_pc_ce.rs, on packets by value. A merge is computed on slips, so that it does not carry the data's 32 bytes
 // through every step.
-ghost use Rattle.std.specs.Prelude.{◌≡◌, ℕ, max, ◌&&◌, nat_lt};
+ghost use Rattle.std.specs.Prelude.{◌≡◌, ℕ, ◌+◌, ◌&&◌, nat_lt, eqb};
 ghost use Rattle.marks.specs.Marks.{has, marks};
 ghost use Rattle.merges.specs.Votes.{no_of};
 ghost use Rattle.merges.specs.Merging.{entry, filled_of, marked_of, only_of, join_of, join_news, unanimous_of, rank_of, with_state, ensure_of, decided_of, acknowledged_of, voiced_of, settled, adopted_of, raised_of, own_of, same_term_of, redundant, new_info, outdated, heard_of, merge_of, blank, proposal_of, standing_of, goal_of, can_sleep_of, all_hold, any_holds, outcome_of};
@@ -59,7 +59,8 @@ pub struct Slip {
     pub flags_bitmap: Bitmap,
 }
 
-// A slip on its way through a merge, and whether anything in it is new.
+// A slip on its way through a merge, and whether anything in it is new. A flag beside it and no Option: a slip without
+// news goes through the steps that follow all the same.
 #[derive(Clone, Copy)]
 pub struct Draft {
     pub slip: Slip,
@@ -73,18 +74,13 @@ fn first_of(m: u64, len: usize) -> u64
     sets::intersection(m, sets::first_marks(len))
 }
 
-fn larger(a: usize, b: usize) -> usize
-    ensures { result ≡ max a b }
-{
-    if a < b { b } else { a }
-}
-
 // What is missing up to n is false.
+#[tactic(auto, unfolding(crate::specs::Merging::filled_of))]
 fn filled(n: usize, b: Bitmap) -> Bitmap
     ensures { result ≡ filled_of n b }
 {
     Bitmap {
-        len: larger(b.len, n),
+        len: b.len.max(n),
         marks: first_of(b.marks, b.len),
     }
 }
@@ -146,14 +142,12 @@ pub fn has_unanimity(n: usize, b: Bitmap) -> bool
     sets::all_marked(b.marks, b.len)
 }
 
+// Committed outranks Prepare, and Aborted both.
+#[tactic(auto, unfolding(crate::specs::Merging::rank_of))]
 fn rank(phase: TwoPcPhase) -> u64
     ensures { result ≡ rank_of phase }
 {
-    match phase {
-        TwoPcPhase::Prepare => 0,
-        TwoPcPhase::Committed => 1,
-        TwoPcPhase::Aborted => 2,
-    }
+    phase as u64
 }
 
 fn with_state(s: Slip, phase: TwoPcPhase, flags_bitmap: Bitmap) -> Slip
@@ -456,51 +450,45 @@ fn blank_slip(n: usize, term: u64) -> Slip
 pub fn init_proposal(voting: Voting, term: u64, initiator: usize) -> CeTwoPcPacket
     ensures { result ≡ proposal_of (no_of voting) voting.n initiator term }
 {
-    let next = std::num::wrapping_add_u64(term, 1);
+    let next = term.wrapping_add(1);
     let s = adopt_with_local_vote(voting, blank_slip(voting.n, next), initiator);
     with_data(s, two_pc_ce::proposal_data(next))
 }
 
-// 0 for no packet, then Prepare, Committed, Aborted.
-fn standing(payload: Payload) -> u64
-    ensures { result ≡ standing_of payload }
+// A packet of this phase is held.
+#[tactic(auto, unfolding(crate::specs::Merging::standing_by, crate::specs::Merging::rank_of))]
+fn holds(payload: &Payload, phase: TwoPcPhase) -> bool
+    ensures { result ≡ eqb (standing_of payload.now) (rank_of phase + 1) }
 {
-    let k = payload.held;
-    let p = payload.packet;
-    let phase = p.phase;
-    match k {
-        Held::Empty => 0,
-        Held::Unreadable => 0,
-        Held::Packet => match phase {
-            TwoPcPhase::Prepare => 1,
-            TwoPcPhase::Committed => 2,
-            TwoPcPhase::Aborted => 3,
-        },
+    match payload.held {
+        Held::Packet => rank(payload.packet.phase) == rank(phase),
+        Held::Empty => false,
+        Held::Unreadable => false,
     }
 }
 
 // A decision is held.
+#[tactic(auto, using(crate::proofs::Outcomes::goal_by_phases), unfolding(crate::specs::Merging::rank_of))]
 pub fn node_goal_reached(payload: Payload) -> bool
     ensures { result ≡ goal_of payload }
 {
-    1 < standing(payload)
+    holds(&payload, TwoPcPhase::Committed) || holds(&payload, TwoPcPhase::Aborted)
 }
 
 // A decision is held, and its bitmap says that all hold it.
+#[tactic(auto, unfolding(crate::specs::Merging::can_sleep_of))]
 pub fn node_can_sleep(n: usize, payload: Payload) -> bool
     ensures { result ≡ can_sleep_of n payload }
 {
     if !node_goal_reached(payload) {
         return false;
     }
-    let p = payload.packet;
-    let b = p.flags_bitmap;
-    has_unanimity(n, b)
+    has_unanimity(n, payload.packet.flags_bitmap)
 }
 
-// Every one of the first n positions stands at k, and there is one at least.
-fn all_stand(payloads: [Payload; 64], n: usize, k: u64) -> bool
-    ensures { result ≡ all_hold n k payloads }
+// Every one of the first n positions holds a packet of this phase, and there is one at least.
+fn all_hold(payloads: &[Payload; 64], n: usize, phase: TwoPcPhase) -> bool
+    ensures { result ≡ all_hold n (rank_of phase + 1) payloads.now }
 {
     if n == 0 {
         return false;
@@ -508,31 +496,25 @@ fn all_stand(payloads: [Payload; 64], n: usize, k: u64) -> bool
     if n > limits::POSITIONS {
         return false;
     }
-    let mut i = 0;
-    while i < n {
-        let payload = payloads[i];
-        if standing(payload) != k {
+    for i in 0..n {
+        if !holds(&payloads[i], phase) {
             return false;
         }
-        i += 1;
     }
     true
 }
 
-// One of the first n positions stands at k, or more.
-fn any_stands(payloads: [Payload; 64], n: usize, k: u64) -> bool
-    ensures { result ≡ any_holds n k payloads }
+// One of the first n positions holds a packet of this phase.
+fn any_holds(payloads: &[Payload; 64], n: usize, phase: TwoPcPhase) -> bool
+    ensures { result ≡ any_holds n (rank_of phase + 1) payloads.now }
 {
     if n > limits::POSITIONS {
         return false;
     }
-    let mut i = 0;
-    while i < n {
-        let payload = payloads[i];
-        if standing(payload) == k {
+    for i in 0..n {
+        if holds(&payloads[i], phase) {
             return true;
         }
-        i += 1;
     }
     false
 }
@@ -541,10 +523,10 @@ fn any_stands(payloads: [Payload; 64], n: usize, k: u64) -> bool
 pub fn proposal_outcome(payloads: [Payload; 64], n: usize) -> ProposalOutcome
     ensures { result ≡ outcome_of n payloads }
 {
-    if any_stands(payloads, n, 3) {
+    if any_holds(&payloads, n, TwoPcPhase::Aborted) {
         return ProposalOutcome::Aborted;
     }
-    if all_stand(payloads, n, 2) {
+    if all_hold(&payloads, n, TwoPcPhase::Committed) {
         return ProposalOutcome::Committed;
     }
     ProposalOutcome::TimedOut

@@ -1,7 +1,6 @@
 // RULES 4.1. How a position votes on a proposal: by its hash with the term, so that whoever asks gets the same answer.
 ghost use Rattle.std.specs.Prelude.{◌≡◌};
 ghost use Rattle.merges.specs.Votes.{hash_of, share_of, no_of};
-ghost use Rattle.loops.specs.Wrap.{mul64};
 
 // What a vote and a merge turn on: the number of positions, how likely a no is, and the seed. A room's settings hold
 // them.
@@ -12,25 +11,13 @@ pub struct Voting {
     pub seed: u64,
 }
 
-// A product's low 64 binary digits, from the products of halves: what two upper halves make lies above them.
-pub fn wrapping_mul(a: u64, b: u64) -> u64
-    ensures { result ≡ mul64 a b }
-{
-    let a0 = a % 4294967296;
-    let a1 = a / 4294967296;
-    let b0 = b % 4294967296;
-    let b1 = b / 4294967296;
-    let cross = std::num::wrapping_add_u64(a1 * b0, a0 * b1);
-    std::num::wrapping_add_u64(a0 * b0, cross % 4294967296 * 4294967296)
-}
-
 fn vote_hash(term: u64, node_id: u64, seed: u64) -> u64
     ensures { result ≡ hash_of term node_id seed }
 {
-    let who = std::num::wrapping_add_u64(node_id, 1);
-    let both = std::num::wrapping_add_u64(wrapping_mul(term, 1000003), who);
-    let salt = std::num::wrapping_add_u64(seed, 11400714819323198485);
-    wrapping_mul(both, salt)
+    let who = node_id.wrapping_add(1);
+    let both = term.wrapping_mul(1000003).wrapping_add(who);
+    let salt = seed.wrapping_add(11400714819323198485);
+    both.wrapping_mul(salt)
 }
 
 // A remainder below 10000 is a whole number that an f64 holds, so the division alone rounds.

@@ -7,4 +7,3 @@ unfolding proposal_of
 returns c =
     c.with_data.ensures ∙ c.adopt_with_local_vote-s.ensures (λ _. c.proposal_data.result)
     ∙ ap (adopted_of _ _ _) (c.blank_slip.ensures (λ _. c.proposal_data.result) c.proposal_data.ensures)
-    ∙ rw c.wrapping_add_u64-next.ensures.value

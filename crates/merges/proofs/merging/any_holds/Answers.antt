@@ -1,8 +1,8 @@
-use Rattle.std.proofs.Common.{ℕ, eqb, sym, ap, ◌∙◌, arith, rules, eq-eqb, ne_eqb, le-leb}
+use Rattle.std.proofs.Common.{sym, ◌∙◌, arith, rules, le-leb}
 use borrow.Author.Tests.{lt-leb}
 use Rattle.marks.specs.Sets.{any_none, any_more, any_at, any_done}
 use Rattle.merges.specs.Merging.{any_holds}
-use Rattle.merges.proofs.merging.any_stands.Goals as goal
+use Rattle.merges.proofs.merging.any_holds.Goals as goal
 
 pub returns-then-n-gt-POSITIONS : goal.returns-then-n-gt-POSITIONS
 unfolding any_holds
@@ -11,12 +11,12 @@ returns-then-n-gt-POSITIONS c = rw (lt-leb c.args.n 64 c.if-n-gt-POSITIONS.true)
 pub loop-i-init : goal.loop-i-init
 loop-i-init c = (search rules, any_none _)
 
-pub returns-then-standing-k : goal.returns-then-standing-k
+pub returns-then-holds : goal.returns-then-holds
 unfolding any_holds
-returns-then-standing-k c = rw (le-leb c.args.n 64 (omega arith)) (sym (any_at c.args.n _ c.loop-i.i c.loop-i-test.true (ap (λ (x : ℕ). eqb x c.args.k) (sym c.standing.ensures) ∙ eq-eqb _ _ c.if-standing-k.true)))
+returns-then-holds c = rw (le-leb c.args.n 64 (omega arith)) (sym (any_at c.args.n _ c.loop-i.i c.loop-i-test.true (sym c.holds.ensures ∙ c.if-holds.true)))
 
 pub loop-i-preserved : goal.loop-i-preserved
-loop-i-preserved c = (search rules, any_more _ c.loop-i.i c.loop-i.invariant.1 (ap (λ (x : ℕ). eqb x c.args.k) (sym c.standing.ensures) ∙ ne_eqb _ _ c.if-standing-k.false))
+loop-i-preserved c = (search rules, any_more _ c.loop-i.i c.loop-i.invariant.1 (sym c.holds.ensures ∙ c.if-holds.false))
 
 pub returns : goal.returns
 unfolding any_holds

@@ -1,8 +1,8 @@
-use Rattle.std.proofs.Common.{ℕ, eqb, sym, ap, ◌∙◌, arith, rules, lt-ltb, eq-eqb, ne_eqb, le-leb}
+use Rattle.std.proofs.Common.{sym, ◌∙◌, arith, rules, lt-ltb, le-leb}
 use borrow.Author.Tests.{lt-leb}
 use Rattle.marks.specs.Sets.{all_none, all_more, all_left, all_done}
 use Rattle.merges.specs.Merging.{all_hold}
-use Rattle.merges.proofs.merging.all_stand.Goals as goal
+use Rattle.merges.proofs.merging.all_hold.Goals as goal
 
 pub returns-then-n-eq0 : goal.returns-then-n-eq0
 unfolding all_hold
@@ -15,12 +15,12 @@ returns-then-n-gt-POSITIONS c = rw (lt-ltb 0 c.args.n (omega arith), lt-leb c.ar
 pub loop-i-init : goal.loop-i-init
 loop-i-init c = (search rules, all_none _)
 
-pub returns-then-standing-k : goal.returns-then-standing-k
+pub returns-then-not-holds : goal.returns-then-not-holds
 unfolding all_hold
-returns-then-standing-k c = rw (lt-ltb 0 c.args.n (omega arith), le-leb c.args.n 64 (omega arith)) (sym (all_left _ c.loop-i.i c.args.n c.loop-i-test.true (ap (λ (x : ℕ). eqb x c.args.k) (sym c.standing.ensures) ∙ ne_eqb _ _ c.if-standing-k.true)))
+returns-then-not-holds c = rw (lt-ltb 0 c.args.n (omega arith), le-leb c.args.n 64 (omega arith)) (sym (all_left _ c.loop-i.i c.args.n c.loop-i-test.true (sym c.holds.ensures ∙ c.if-not-holds.true)))
 
 pub loop-i-preserved : goal.loop-i-preserved
-loop-i-preserved c = (search rules, all_more _ c.loop-i.i c.loop-i.invariant.1 (ap (λ (x : ℕ). eqb x c.args.k) (sym c.standing.ensures) ∙ eq-eqb _ _ c.if-standing-k.false))
+loop-i-preserved c = (search rules, all_more _ c.loop-i.i c.loop-i.invariant.1 (sym c.holds.ensures ∙ c.if-not-holds.false))
 
 pub returns : goal.returns
 unfolding all_hold
