@@ -3,13 +3,13 @@
 // 32 bytes of data.
 ghost use Rattle.std.specs.Prelude.{◌≡◌, ◌+◌, ◌≤◌};
 ghost use Rattle.packets.specs.Packets.{limits};
-ghost use Rattle.packets_c.specs.Console.{phase_number, phase_numbered};
 ghost use Rattle.engines_c.specs.Payloads.{held_number, held_numbered, bytes_at, payload_at, held_at, bytes_fit, payload_fits, held_fits, payload_numbers, put_payload, put_held};
 
 use super::numbers;
 use engines::clamp;
 use merges::merging::{Held, Payload};
-use packets::{Bitmap, CeTwoPcPacket, Data, TwoPcPhase};
+use packets::{Bitmap, CeTwoPcPacket, Data};
+use packets_c::console;
 
 fn held_number(h: Held) -> u64
     ensures { result ≡ held_number h }
@@ -34,29 +34,6 @@ fn held_numbered(n: u64) -> Held
     Held::Packet
 }
 
-fn phase_number(p: TwoPcPhase) -> u64
-    ensures { result ≡ phase_number p }
-{
-    match p {
-        TwoPcPhase::Prepare => 0,
-        TwoPcPhase::Committed => 1,
-        TwoPcPhase::Aborted => 2,
-    }
-}
-
-// A number above 2 reads as Aborted.
-fn phase_numbered(n: u64) -> TwoPcPhase
-    ensures { result ≡ phase_numbered n }
-{
-    if n == 0 {
-        return TwoPcPhase::Prepare;
-    }
-    if n == 1 {
-        return TwoPcPhase::Committed;
-    }
-    TwoPcPhase::Aborted
-}
-
 // A number above 255 gives its low eight digits.
 fn bytes_of(xs: &[u64], at: usize, k: usize) -> [u8; limits::DATA]
     requires { k ≤ 10000 }
@@ -77,7 +54,7 @@ fn payload_of(xs: &[u64], at: usize, k: usize) -> Payload
     ensures { result ≡ payload_at xs.now at k }
 {
     let held = held_numbered(numbers::number_behind(xs, at, k));
-    let phase = phase_numbered(numbers::number_behind(xs, at, k + 2));
+    let phase = console::phase_numbered(numbers::number_behind(xs, at, k + 2));
     let bytes = bytes_of(xs, at, k + 6);
     let proposal_data = Data {
         len: numbers::number_behind(xs, at, k + 3) as usize,
@@ -196,7 +173,7 @@ fn payload_numbers(l: Payload) -> [u64; 6]
     [
         held_number(held),
         p.term,
-        phase_number(phase),
+        phase as u64,
         proposal_data.len as u64,
         flags_bitmap.len as u64,
         flags_bitmap.marks,

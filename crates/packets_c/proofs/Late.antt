@@ -1,6 +1,8 @@
 -- Late frames on texts: what is read of every text that is ever held is sound. The laws of specs/Desk carry it over
 -- from packets to texts; how a text is spelt is not looked at.
 -- Assumes nothing.
+use Rattle.std.specs.Prelude.{Result, Ok, Err}
+use Rattle.limits.specs.declared.refusals.Refusal.{Refusal}
 use mathlib.Core.Path.{◌≡◌, refl, sym, ap₂, subst}
 use mathlib.Core.Bool.{Bool, true, false}
 use mathlib.Core.List.{List, [], ◌∷◌, map}
@@ -12,10 +14,10 @@ use Rattle.merges.specs.Votes.{no_of}
 use Rattle.merges.specs.Merging.{payload_of}
 use Rattle.merges.specs.Sound.{SoundHeld}
 use Rattle.merges.specs.Late.{Event, Propose, Deliver}
-use Rattle.packets_c.specs.Desk.{desk_of, proposed_of}
+use Rattle.packets_c.specs.Desk.{desk_of, proposed_of, proposed_left}
 use Rattle.packets_c.specs.Late.{Place, emptied, no_place, Moment, opening, History, place_at, proposed, merging, happened, history, read_of, LateTexts}
 use Rattle.merges.specs.declared.votes.Voting.{Voting}
-use Rattle.merges.proofs.Safety.{either_cases, merges_sound, proposes_sound, never_both}
+use Rattle.merges.proofs.Safety.{merges_sound, proposes_sound, never_both}
 use Rattle.loops.specs.Stores.{set_all}
 use Rattle.packets_c.proofs.Desks.{refused_leaves}
 use Rattle.packets_c.proofs.Texting.{
@@ -49,10 +51,11 @@ module _ (s : Voting) where
   emptied_sound (x ∷ l) (suc u) = emptied_sound l u
 
   -- ---- one event
-  proposal_sound : (v t : ℕ) (l : Place) → (proposed_of s v t l.buffer).refusal ≡ 0 → SoundPlace (proposed s v t l)
-  proposal_sound v t l k =
-      subst (SoundHeld (no_of s) s.n) (sym (proposal_follows s v t l.buffer k))
-      (proposes_sound (no_of s) s.n v t (may_propose s.n v t (accepted_proposal s v t l.buffer k)).1)
+  proposal_sound : (v t : ℕ) (buf : List ℕ) (len : ℕ) → proposed_of s v t buf ≡ Ok len
+      → SoundPlace (record { buffer = proposed_left s v t buf; len = len })
+  proposal_sound v t buf len k =
+      subst (SoundHeld (no_of s) s.n) (sym (proposal_follows s v t buf len k))
+      (proposes_sound (no_of s) s.n v t (may_propose s.n v t tt (accepted_proposal s v t buf len k)).1)
 
   module _ (v : ℕ) (l r : Place) (p : SoundPlace l) (q : SoundPlace r) where
     abbrev copy : List ℕ
@@ -89,13 +92,14 @@ module _ (s : Voting) where
   happened_sound : (e : Event) (h : History) (a : Moment) → Past h → SoundAll a.places
       → SoundAll (happened s e h a).places
   unfolding happened
-  happened_sound (Propose v) h a p q =
-      let l = get_or a.places v no_place in
-      let none = (proposed_of s v a.term l.buffer).refusal in
-      either_cases (λ (b : Moment). SoundAll b.places) (eqb none 0)
-      (λ e. set_all SoundPlace no_place (map (λ (x : Place). emptied x.buffer) a.places) v (proposed s v a.term l)
-      (emptied_sound a.places) (proposal_sound v a.term l (eqb-true none 0 e)))
-      (λ e. q)
+  happened_sound (Propose v) h a p q = by (proposed_of s v a.term (get_or a.places v no_place).buffer) refl
+    where
+      by : (r : Result ℕ Refusal) → proposed_of s v a.term (get_or a.places v no_place).buffer ≡ r → SoundAll (proposed s v a r).places
+      by (Ok len) e =
+          set_all SoundPlace no_place (map (λ (x : Place). emptied x.buffer) a.places) v
+          (record { buffer = proposed_left s v a.term (get_or a.places v no_place).buffer; len = len })
+          (emptied_sound a.places) (proposal_sound v a.term (get_or a.places v no_place).buffer len e)
+      by (Err k) e = q
   happened_sound (Deliver v m u) h a p q =
       set_all SoundPlace no_place a.places v (merging s v (get_or a.places v no_place) (place_at h m u)) q
       (merging_sound v (get_or a.places v no_place) (place_at h m u) (q v) (p m u))

@@ -1,5 +1,6 @@
 -- Numbers and bytes that fit are those of the packet that they ask for, and a packet's numbers and bytes ask for it.
 -- Assumes nothing.
+use Rattle.std.specs.Prelude.{Option, Some, None}
 use mathlib.Core.Path.{◌≡◌, refl, sym, ap, ◌∙◌}
 use mathlib.Core.Bool.{Bool, true, false, ◌&&◌}
 use mathlib.Core.List.{List, [], ◌∷◌}
@@ -20,10 +21,6 @@ use Rattle.packets.specs.declared.TwoPcPhase.{TwoPcPhase}
 use Rattle.packets.specs.declared.TwoPcPhase.TheVariants.{Prepare, Committed, Aborted}
 use Rattle.packets.specs.declared.Bitmap.{Bitmap}
 use Rattle.packets.specs.declared.Data.{Data}
-use Rattle.packets.specs.declared.PiggybackTx.{PiggybackTx}
-use Rattle.packets.specs.declared.PiggybackTx.TheVariants as tx
-use Rattle.packets.specs.declared.PiggybackState.{PiggybackState}
-use Rattle.packets.specs.declared.PiggybackState.TheVariants as state
 use Rattle.packets.proofs.Writes.{limits_true, limits_valid}
 use Rattle.packets_c.specs.Console.{
   phase_number,
@@ -103,18 +100,18 @@ pub tx_back : (there n : ℕ) → pair_fits there n ≡ true
 tx_back there n h =
     ⊎_elim (λ e. (rw e, rw e)) (λ w. (rw w.0, rw w.0 (sym w.1))) (pair_cases there n h)
 
-pub tx_again : (p : PiggybackTx) → tx_numbered (tx_there p) (tx_number p) ≡ p
-tx_again tx.Absent = refl
-tx_again (tx.Present n) = refl
+pub tx_again : (p : Option ℕ) → tx_numbered (tx_there p) (tx_number p) ≡ p
+tx_again None = refl
+tx_again (Some n) = refl
 
-pub tx_fits : (p : PiggybackTx) → pair_fits (tx_there p) (tx_number p) ≡ true
-tx_fits tx.Absent = refl
-tx_fits (tx.Present n) = refl
+pub tx_fits : (p : Option ℕ) → pair_fits (tx_there p) (tx_number p) ≡ true
+tx_fits None = refl
+tx_fits (Some n) = refl
 
 pub tx_valid : (there n : ℕ) → n < 2 ^ 64 → ValidTx (tx_numbered there n)
 tx_valid there n h = go (eqb there 0)
   where
-    go : (b : Bool) → ValidTx (either b tx.Absent (tx.Present n))
+    go : (b : Bool) → ValidTx (either b None (Some n))
     go true = tt
     go false = h
 
@@ -123,17 +120,17 @@ pub state_back : (there n : ℕ) → pair_fits there n ≡ true → n ≤ 2
 state_back there n h l =
     ⊎_elim (λ e. (rw e, rw e (phase_back n l))) (λ w. (rw w.0, rw w.0 (sym w.1))) (pair_cases there n h)
 
-pub state_again : (p : PiggybackState) → state_numbered (state_there p) (state_number p) ≡ p
-state_again state.Absent = refl
-state_again (state.Present p) = ap state.Present (phase_again p)
+pub state_again : (p : Option TwoPcPhase) → state_numbered (state_there p) (state_number p) ≡ p
+state_again None = refl
+state_again (Some p) = ap Some (phase_again p)
 
-pub state_fits : (p : PiggybackState) → pair_fits (state_there p) (state_number p) ≡ true
-state_fits state.Absent = refl
-state_fits (state.Present p) = refl
+pub state_fits : (p : Option TwoPcPhase) → pair_fits (state_there p) (state_number p) ≡ true
+state_fits None = refl
+state_fits (Some p) = refl
 
-pub state_small : (p : PiggybackState) → state_number p ≤ 2
-state_small state.Absent = omega arith
-state_small (state.Present p) = phase_small p
+pub state_small : (p : Option TwoPcPhase) → state_number p ≤ 2
+state_small None = omega arith
+state_small (Some p) = phase_small p
 
 pub piggyback_fit : (a n b phase : ℕ) → piggyback_fits a n b phase ≡ true
     → (pair_fits a n ≡ true) × (pair_fits b phase ≡ true) × (phase ≤ 2)
@@ -142,7 +139,7 @@ piggyback_fit a n b phase h =
     let y = and_true (pair_fits b phase) (leb phase 2) x.1 in
     (x.0, y.0, leb-true phase 2 y.1)
 
-pub piggyback_fits_lem : (t : PiggybackTx) (s : PiggybackState)
+pub piggyback_fits_lem : (t : Option ℕ) (s : Option TwoPcPhase)
     → piggyback_fits (tx_there t) (tx_number t) (state_there s) (state_number s) ≡ true
 piggyback_fits_lem t s =
     true_and (pair_fits (tx_there t) (tx_number t)) _ (tx_fits t)

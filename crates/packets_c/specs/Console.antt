@@ -1,26 +1,20 @@
 -- The C entries, by RULES 17, and refusals 9 and 10 of RULES 15: packets as numbers and bytes in lent slices.
 -- Assumes nothing: these are definitions.
-use Rattle.std.specs.Prelude.{Bool, ◌&&◌, ◌||◌, List, [], ◌∷◌, ℕ, ◌^◌, leb, ltb, eqb, length, take, get_or, replicate}
+use Rattle.std.specs.Prelude.{Bool, ◌&&◌, ◌||◌, Option, Some, None, is_some, unwrap_or, Result, Ok, Err, List, [], ◌∷◌, ℕ, ◌^◌, leb, ltb, eqb, length, take, get_or, replicate}
 use mir.Val.{bool_byte}
 use Rattle.limits.specs.Limits.{data_bytes}
-use Rattle.limits.specs.Refusals.{bad_packet, no_fit}
+use Rattle.limits.specs.declared.refusals.Refusal.{Refusal}
+use Rattle.limits.specs.declared.refusals.Refusal.TheVariants.{BadPacket, NoFit}
 use Rattle.loops.specs.Pick.{either}
 use Rattle.texts.specs.Put.{written}
 use Rattle.packets.specs.Packets.{limits, ce_text, pipeline_text, ce_within, pipeline_within}
-use Rattle.packets.specs.Reading.{ce_no, ce_yes, ce_read, pipeline_no, pipeline_yes, pipeline_read}
-use Rattle.packets.specs.Writing.{refused, wrote_of, left_of}
-use Rattle.packets.specs.declared.Wrote.{Wrote}
+use Rattle.packets.specs.Reading.{ce_read, pipeline_read}
+use Rattle.packets.specs.Writing.{wrote_of, left_of}
 use Rattle.packets.specs.declared.TwoPcPhase.{TwoPcPhase}
 use Rattle.packets.specs.declared.TwoPcPhase.TheVariants.{Prepare, Committed, Aborted}
 use Rattle.packets.specs.declared.Data.{Data}
-use Rattle.packets.specs.declared.PiggybackTx.{PiggybackTx}
-use Rattle.packets.specs.declared.PiggybackTx.TheVariants as tx
-use Rattle.packets.specs.declared.PiggybackState.{PiggybackState}
-use Rattle.packets.specs.declared.PiggybackState.TheVariants as state
 use Rattle.packets.specs.declared.CeTwoPcPacket.{CeTwoPcPacket}
 use Rattle.packets.specs.declared.TwoPcPacket.{TwoPcPacket}
-use Rattle.packets.specs.declared.CeRead.{CeRead}
-use Rattle.packets.specs.declared.PipelineRead.{PipelineRead}
 
 -- ---- packets as numbers
 
@@ -34,27 +28,24 @@ abbrev pub phase_numbered : ℕ → TwoPcPhase
 phase_numbered n = either (eqb n 0) Prepare (either (eqb n 1) Committed Aborted)
 
 -- what may be absent is two numbers: 1 and the value, or 0 and 0
-abbrev pub tx_there : PiggybackTx → ℕ
-tx_there tx.Absent = 0
-tx_there (tx.Present n) = 1
+abbrev pub tx_there : Option ℕ → ℕ
+tx_there p = bool_byte (is_some p)
 
-abbrev pub tx_number : PiggybackTx → ℕ
-tx_number tx.Absent = 0
-tx_number (tx.Present n) = n
+abbrev pub tx_number : Option ℕ → ℕ
+tx_number p = unwrap_or p 0
 
-abbrev pub tx_numbered : ℕ → ℕ → PiggybackTx
-tx_numbered there n = either (eqb there 0) tx.Absent (tx.Present n)
+abbrev pub tx_numbered : ℕ → ℕ → Option ℕ
+tx_numbered there n = either (eqb there 0) None (Some n)
 
-abbrev pub state_there : PiggybackState → ℕ
-state_there state.Absent = 0
-state_there (state.Present p) = 1
+abbrev pub state_there : Option TwoPcPhase → ℕ
+state_there p = bool_byte (is_some p)
 
-abbrev pub state_number : PiggybackState → ℕ
-state_number state.Absent = 0
-state_number (state.Present p) = phase_number p
+abbrev pub state_number : Option TwoPcPhase → ℕ
+state_number None = 0
+state_number (Some p) = phase_number p
 
-abbrev pub state_numbered : ℕ → ℕ → PiggybackState
-state_numbered there n = either (eqb there 0) state.Absent (state.Present (phase_numbered n))
+abbrev pub state_numbered : ℕ → ℕ → Option TwoPcPhase
+state_numbered there n = either (eqb there 0) None (Some (phase_numbered n))
 
 -- the numbers that are handed out, in the order of include/packets.h
 unfoldable pub ce_numbers : CeTwoPcPacket → List ℕ
@@ -67,20 +58,19 @@ pipeline_numbers p =
     ∷ state_number p.piggyback_state ∷ []
 
 -- ---- reading: 10 if a slice is shorter than what is handed out or than the stated length, else as the reader answers
-unfoldable pub ce_told : List ℕ → ℕ → ℕ → ℕ → CeRead
+unfoldable pub ce_told : List ℕ → ℕ → ℕ → ℕ → Result CeTwoPcPacket Refusal
 ce_told text len numbers bytes =
-    either (leb 5 numbers) (either (leb data_bytes bytes) (ce_read text len) (ce_no no_fit)) (ce_no no_fit)
+    either (leb 5 numbers) (either (leb data_bytes bytes) (ce_read text len) (Err NoFit)) (Err NoFit)
 
-unfoldable pub pipeline_told : List ℕ → ℕ → ℕ → ℕ → PipelineRead
+unfoldable pub pipeline_told : List ℕ → ℕ → ℕ → ℕ → Result TwoPcPacket Refusal
 pipeline_told text len numbers bytes =
-    either (leb 12 numbers)
-    (either (leb data_bytes bytes) (pipeline_read text len) (pipeline_no no_fit))
-    (pipeline_no no_fit)
+    either (leb 12 numbers) (either (leb data_bytes bytes) (pipeline_read text len) (Err NoFit)) (Err NoFit)
 
--- a lent slice afterwards: what is handed out from its first place on, and all else, or on a refusal everything, as it
--- was
-unfoldable pub handed : ℕ → List ℕ → List ℕ → List ℕ
-handed refusal values d = either (eqb refusal 0) (written d 0 values) d
+-- a lent slice afterwards: what is handed out of a packet from its first place on, and all else, or on a refusal
+-- everything, as it was
+unfoldable pub handed : {P : Type 0} → Result P Refusal → (P → List ℕ) → List ℕ → List ℕ
+handed (Ok p) values d = written d 0 (values p)
+handed (Err k) values d = d
 
 -- ---- writing: the packet that the numbers ask for, or the refusal: 10 if a slice is too short, then 9 for numbers
 -- that no packet within the limits has. So what is written is read back as it was asked for (specs/Back.antt)
@@ -104,15 +94,15 @@ sizes_fit entries bytes marks = limits entries bytes && ltb marks (2 ^ entries)
 unfoldable pub ce_fits : List ℕ → Bool
 ce_fits m = leb (get_or m 1 0) 2 && sizes_fit (get_or m 3 0) (get_or m 2 0) (get_or m 4 0)
 
-unfoldable pub ce_asked : List ℕ → List ℕ → CeRead
+unfoldable pub ce_asked : List ℕ → List ℕ → Result CeTwoPcPacket Refusal
 ce_asked m bytes =
     either (leb 5 (length m))
     (either (leb (get_or m 2 0) (length bytes))
     (either (ce_fits m)
-    (ce_yes (ce_numbered m (data_asked bytes (get_or m 2 0))))
-    (ce_no bad_packet))
-    (ce_no no_fit))
-    (ce_no no_fit)
+    (Ok (ce_numbered m (data_asked bytes (get_or m 2 0))))
+    (Err BadPacket))
+    (Err NoFit))
+    (Err NoFit)
 
 abbrev pub pipeline_numbered : List ℕ → Data → TwoPcPacket
 pipeline_numbered m d =
@@ -143,37 +133,38 @@ pipeline_fits m =
     && (sizes_fit (get_or m 2 0) (get_or m 6 0) (get_or m 3 0)
     && piggyback_fits (get_or m 8 0) (get_or m 9 0) (get_or m 10 0) (get_or m 11 0)))
 
-unfoldable pub pipeline_asked : List ℕ → List ℕ → PipelineRead
+unfoldable pub pipeline_asked : List ℕ → List ℕ → Result TwoPcPacket Refusal
 pipeline_asked m bytes =
     either (leb 12 (length m))
     (either (leb (get_or m 6 0) (length bytes))
     (either (pipeline_fits m)
-    (pipeline_yes (pipeline_numbered m (data_asked bytes (get_or m 6 0))))
-    (pipeline_no bad_packet))
-    (pipeline_no no_fit))
-    (pipeline_no no_fit)
+    (Ok (pipeline_numbered m (data_asked bytes (get_or m 6 0))))
+    (Err BadPacket))
+    (Err NoFit))
+    (Err NoFit)
 
--- the answer and the buffer, for a packet that was asked for with this refusal, limits and text
-unfoldable pub asked_wrote : ℕ → Bool → List ℕ → List ℕ → ℕ → Wrote
-asked_wrote refusal fine t d at = either (eqb refusal 0) (wrote_of fine t d at) (refused refusal)
+-- the answer and the buffer, for a packet that was asked for or the refusal, with the limits and the text
+unfoldable pub asked_wrote : {P : Type 0} → (P → Bool) → (P → List ℕ) → Result P Refusal → List ℕ → ℕ → Result ℕ Refusal
+asked_wrote within text (Ok p) d at = wrote_of (within p) (text p) d at
+asked_wrote within text (Err k) d at = Err k
 
-unfoldable pub asked_left : ℕ → Bool → List ℕ → List ℕ → ℕ → List ℕ
-asked_left refusal fine t d at = either (eqb refusal 0) (left_of fine t d at) d
+unfoldable pub asked_left : {P : Type 0} → (P → Bool) → (P → List ℕ) → Result P Refusal → List ℕ → ℕ → List ℕ
+asked_left within text (Ok p) d at = left_of (within p) (text p) d at
+asked_left within text (Err k) d at = d
 
-abbrev pub ce_wrote : List ℕ → List ℕ → List ℕ → ℕ → Wrote
-ce_wrote m bytes d at = asked_wrote (ce_asked m bytes).refusal (ce_within (ce_asked m bytes).packet) (ce_text (ce_asked m bytes).packet) d at
+abbrev pub ce_wrote : List ℕ → List ℕ → List ℕ → ℕ → Result ℕ Refusal
+ce_wrote m bytes d at = asked_wrote (λ p. ce_within p) ce_text (ce_asked m bytes) d at
 
 abbrev pub ce_left : List ℕ → List ℕ → List ℕ → ℕ → List ℕ
-ce_left m bytes d at = asked_left (ce_asked m bytes).refusal (ce_within (ce_asked m bytes).packet) (ce_text (ce_asked m bytes).packet) d at
+ce_left m bytes d at = asked_left (λ p. ce_within p) ce_text (ce_asked m bytes) d at
 
-abbrev pub pipeline_wrote : List ℕ → List ℕ → List ℕ → ℕ → Wrote
-pipeline_wrote m bytes d at =
-    asked_wrote (pipeline_asked m bytes).refusal (pipeline_within (pipeline_asked m bytes).packet) (pipeline_text (pipeline_asked m bytes).packet) d at
+abbrev pub pipeline_wrote : List ℕ → List ℕ → List ℕ → ℕ → Result ℕ Refusal
+pipeline_wrote m bytes d at = asked_wrote (λ p. pipeline_within p) pipeline_text (pipeline_asked m bytes) d at
 
 abbrev pub pipeline_left : List ℕ → List ℕ → List ℕ → ℕ → List ℕ
-pipeline_left m bytes d at =
-    asked_left (pipeline_asked m bytes).refusal (pipeline_within (pipeline_asked m bytes).packet) (pipeline_text (pipeline_asked m bytes).packet) d at
+pipeline_left m bytes d at = asked_left (λ p. pipeline_within p) pipeline_text (pipeline_asked m bytes) d at
 
 -- the place that is handed back, as it was on a refusal
-unfoldable pub next_of : Wrote → ℕ → ℕ
-next_of w old = either (eqb w.refusal 0) w.next old
+unfoldable pub next_of : Result ℕ Refusal → ℕ → ℕ
+next_of (Ok next) old = next
+next_of (Err k) old = old

@@ -2,8 +2,8 @@
 -- stated length of its text, a proposal is a call of `ce_packet_propose`, and a delivery hands a copy of any earlier
 -- text to `ce_packet_merge`.
 -- Assumes nothing: these are definitions and a statement, which proofs/Late.antt proves.
-use Rattle.std.specs.Prelude.{◌≡◌, List, [], ◌∷◌, map, ℕ, ◌+◌, eqb, take, get_or, set}
-use Rattle.loops.specs.Pick.{either}
+use Rattle.std.specs.Prelude.{◌≡◌, Result, Ok, Err, List, [], ◌∷◌, map, ℕ, ◌+◌, take, get_or, set}
+use Rattle.limits.specs.declared.refusals.Refusal.{Refusal}
 use Rattle.merges.specs.Merging.{payload_of}
 use Rattle.merges.specs.Late.{Event, Propose, Deliver}
 use Rattle.packets_c.specs.Desk.{desk_of, proposed_of, proposed_left}
@@ -41,18 +41,21 @@ History = List Moment
 abbrev pub place_at : History → ℕ → ℕ → Place
 place_at h m u = get_or (get_or h m (opening 0 [])).places u no_place
 
--- the text of position v's proposal after term t stands in its buffer
-abbrev pub proposed : Voting → ℕ → ℕ → Place → Place
-proposed s v t l =
-    record { buffer = proposed_left s v t l.buffer; len = (proposed_of s v t l.buffer).next }
-
--- .. and all other positions are empty
-abbrev pub proposing : Voting → ℕ → Moment → Place → Moment
-proposing s v a l =
+-- position v has proposed after the moment a: the text, so long, stands in its buffer, and all other positions are
+-- empty
+abbrev pub proposing : Voting → ℕ → Moment → ℕ → Moment
+proposing s v a len =
     record {
       term = a.term + 1;
-      places = set (map (λ (x : Place). emptied x.buffer) a.places) v (proposed s v a.term l);
+      places =
+          set (map (λ (x : Place). emptied x.buffer) a.places) v
+          (record { buffer = proposed_left s v a.term (get_or a.places v no_place).buffer; len = len });
     }
+
+-- a refused proposal (2, 8, 10, 13) changes nothing
+abbrev pub proposed : Voting → ℕ → Moment → Result ℕ Refusal → Moment
+proposed s v a (Ok len) = proposing s v a len
+proposed s v a (Err k) = a
 
 -- position v after a call with a copy of the text of r; refused, it is as it was
 abbrev pub merging : Voting → ℕ → Place → Place → Place
@@ -62,11 +65,9 @@ merging s v l r =
       len = (desk_of s v l.buffer l.len (take r.len r.buffer) r.len 0).len;
     }
 
--- one event. A refused proposal (2, 8, 10, 13) changes nothing, nor does a refused merge (2, 8, 10).
+-- one event. A refused merge (2, 8, 10) changes nothing.
 unfoldable pub happened : Voting → Event → History → Moment → Moment
-happened s (Propose v) h a =
-    either (eqb (proposed_of s v a.term (get_or a.places v no_place).buffer).refusal 0)
-    (proposing s v a (get_or a.places v no_place)) a
+happened s (Propose v) h a = proposed s v a (proposed_of s v a.term (get_or a.places v no_place).buffer)
 happened s (Deliver v m u) h a =
     record { term = a.term; places = set a.places v (merging s v (get_or a.places v no_place) (place_at h m u)) }
 

@@ -17,8 +17,5 @@ pub extern "C" fn ce_vote(term: u64, node_id: u64, abort_probability: f64, seed:
         abort_probability,
         seed,
     };
-    if votes::should_abort_app(voting, term, node_id as usize) {
-        return 1;
-    }
-    0
+    votes::should_abort_app(voting, term, node_id as usize) as u64
 }

@@ -1,79 +1,98 @@
 // RULES 6.8 and 6.6. The merge on lent texts, for the C console.
 ghost use Rattle.std.specs.Prelude.{◌≡◌, length};
+ghost use Rattle.limits.specs.Refusals.{answer_of};
 ghost use Rattle.packets_c.specs.Console.{next_of};
 ghost use Rattle.packets_c.specs.Desk.{refusal_of, rewritten, voters, desk_of, propose_refusal, proposed_of, proposed_left};
-ghost use Rattle.merges.specs.Merging.{payload_of};
+ghost use Rattle.merges.specs.Merging.{without, payload_of};
 
+use super::console;
 use limits::refusals;
+use limits::refusals::Refusal;
 use merges::merging;
 use merges::merging::{Held, MergeResult, Payload};
 use merges::votes::Voting;
-use packets::{CeTwoPcPacket, two_pc_ce};
+use packets::{Bitmap, CeTwoPcPacket, Data, TwoPcPhase, two_pc_ce};
+
+// No packet: one of zeros in its place.
+fn without(held: Held) -> Payload
+    ensures { result ≡ without held }
+{
+    Payload {
+        held,
+        packet: CeTwoPcPacket {
+            term: 0,
+            phase: TwoPcPhase::Prepare,
+            proposal_data: Data {
+                len: 0,
+                bytes: [0u8; 32],
+            },
+            flags_bitmap: Bitmap { len: 0, marks: 0 },
+        },
+    }
+}
 
 // What the first len bytes of a text are.
+#[tactic(auto, unfolding(merges::specs::Merging::payload_of))]
 fn payload_of(text: &[u8], len: usize) -> Payload
     ensures { result ≡ payload_of text.now len }
 {
-    let r = two_pc_ce::read_ce_packet(text, len);
-    let packet = r.packet;
     if len == 0 {
-        return Payload {
-            held: Held::Empty,
-            packet,
-        };
+        return without(Held::Empty);
     }
-    if r.refusal == 0 {
-        return Payload {
+    match two_pc_ce::read_ce_packet(text, len) {
+        Ok(packet) => Payload {
             held: Held::Packet,
             packet,
-        };
-    }
-    Payload {
-        held: Held::Unreadable,
-        packet,
+        },
+        Err(_) => without(Held::Unreadable),
     }
 }
 
 // What is tested before any text is read.
-fn merge_refusal(n: usize, node_id: usize, cap: usize, len: usize, rcap: usize, rlen: usize) -> u64
+#[tactic(auto, unfolding(crate::specs::Desk::refusal_of))]
+fn merge_refusal(
+    n: usize,
+    node_id: usize,
+    cap: usize,
+    len: usize,
+    rcap: usize,
+    rlen: usize,
+) -> Result<(), Refusal>
     ensures { result ≡ refusal_of n node_id cap len rcap rlen }
 {
-    if n == 0 {
-        return refusals::BAD_POSITIONS;
-    }
-    if n > limits::POSITIONS {
-        return refusals::BAD_POSITIONS;
+    if n == 0 || n > limits::POSITIONS {
+        return Err(Refusal::BadPositions);
     }
     if node_id >= n {
-        return refusals::NO_POSITION; // before any length
+        return Err(Refusal::NoPosition); // before any length
     }
     if len > cap {
-        return refusals::NO_FIT; // the local text
+        return Err(Refusal::NoFit); // the local text
     }
     if rlen > rcap {
-        return refusals::NO_FIT; // the received text
+        return Err(Refusal::NoFit); // the received text
     }
-    0
+    Ok(())
 }
 
 // Puts a new packet's text in the place of the local one.
+#[tactic(auto, unfolding(crate::specs::Desk::rewritten, crate::specs::Console::next_of))]
 fn rewrite(local: &mut [u8], local_len: &mut u64, news: &mut u64, p: CeTwoPcPacket) -> u64
     ensures value { result ≡ (rewritten local.old local_len.old news.old p).refusal }
     ensures local_after { local.new ≡ (rewritten local.old local_len.old news.old p).text }
     ensures local_len_after { local_len.new ≡ (rewritten local.old local_len.old news.old p).len }
     ensures news_after { news.new ≡ (rewritten local.old local_len.old news.old p).news }
 {
-    let w = two_pc_ce::write_ce_packet(local, 0, p);
-    if w.refusal != 0 {
-        return w.refusal;
+    let wrote = two_pc_ce::write_ce_packet(local, 0, p);
+    if wrote.is_ok() {
+        *news = 1;
     }
-    *local_len = w.next as u64;
-    *news = 1;
-    0
+    console::answered(wrote, local_len)
 }
 
 // Merges the received text into the local one, for position node_id of n. The answer is the refusal, 0 for none;
 // `news` is 1 then if the local text is new, and 0 if it is as it was. A refused call writes nothing.
+#[tactic(auto, unfolding(crate::specs::Desk::desk_of, crate::specs::Desk::answered))]
 #[unsafe(no_mangle)]
 pub extern "C" fn ce_packet_merge(
     local: &mut [u8],
@@ -93,16 +112,15 @@ pub extern "C" fn ce_packet_merge(
 {
     let len = *local_len as usize;
     let rlen = received_len as usize;
-    let k = merge_refusal(
+    if let Err(refusal) = merge_refusal(
         n as usize,
         node_id as usize,
         local.len(),
         len,
         received.len(),
         rlen,
-    );
-    if k != 0 {
-        return k;
+    ) {
+        return u64::from(refusal);
     }
     let voting = Voting {
         n: n as usize,
@@ -112,34 +130,38 @@ pub extern "C" fn ce_packet_merge(
     let ours = payload_of(local, len);
     let theirs = payload_of(received, rlen);
     let m = merging::merge(voting, ours, theirs, node_id as usize);
-    let result = m.result;
-    let payload = m.payload;
-    let p = payload.packet;
-    match result {
+    match m.result {
         MergeResult::Redundant => {
             *news = 0;
             0
         }
-        MergeResult::NewInfo => rewrite(local, local_len, news, p),
+        MergeResult::NewInfo => rewrite(local, local_len, news, m.payload.packet),
     }
 }
 
-fn propose_refusal(n: usize, initiator: usize, term: u64) -> u64
+#[tactic(auto, unfolding(crate::specs::Desk::propose_refusal))]
+fn propose_refusal(n: usize, initiator: usize, term: u64) -> Result<(), Refusal>
     ensures { result ≡ propose_refusal n initiator term }
 {
-    if n == 0 {
-        return refusals::BAD_POSITIONS;
-    }
-    if n > limits::POSITIONS {
-        return refusals::BAD_POSITIONS;
+    if n == 0 || n > limits::POSITIONS {
+        return Err(Refusal::BadPositions);
     }
     if initiator >= n {
-        return refusals::NO_POSITION;
+        return Err(Refusal::NoPosition);
     }
     if term == limits::LAST_TERM {
-        return refusals::NO_TERM;
+        return Err(Refusal::NoTerm);
     }
-    0
+    Ok(())
+}
+
+#[tactic(auto, unfolding(crate::specs::Desk::proposed_of, crate::specs::Desk::proposed_left, crate::specs::Console::asked_wrote, crate::specs::Console::asked_left))]
+fn propose(voting: Voting, initiator: usize, term: u64, buf: &mut [u8]) -> Result<usize, Refusal>
+    ensures value { result ≡ proposed_of voting initiator term buf.old }
+    ensures buf_after { buf.new ≡ proposed_left voting initiator term buf.old }
+{
+    propose_refusal(voting.n, initiator, term)?;
+    two_pc_ce::write_ce_packet(buf, 0, merging::init_proposal(voting, term, initiator))
 }
 
 // Writes the text of the packet that position initiator of n proposes after `term`, and its length into next. The
@@ -154,24 +176,14 @@ pub extern "C" fn ce_packet_propose(
     buf: &mut [u8],
     next: &mut u64,
 ) -> u64
-    ensures value { result ≡ (proposed_of (voters n abort_probability seed) initiator term buf.old).refusal }
+    ensures value { result ≡ answer_of (proposed_of (voters n abort_probability seed) initiator term buf.old) }
     ensures buf_after { buf.new ≡ proposed_left (voters n abort_probability seed) initiator term buf.old }
     ensures next_after { next.new ≡ next_of (proposed_of (voters n abort_probability seed) initiator term buf.old) next.old }
 {
-    let k = propose_refusal(n as usize, initiator as usize, term);
-    if k != 0 {
-        return k;
-    }
     let voting = Voting {
         n: n as usize,
         abort_probability,
         seed,
     };
-    let p = merging::init_proposal(voting, term, initiator as usize);
-    let w = two_pc_ce::write_ce_packet(buf, 0, p);
-    if w.refusal != 0 {
-        return w.refusal;
-    }
-    *next = w.next as u64;
-    0
+    console::answered(propose(voting, initiator as usize, term, buf), next)
 }

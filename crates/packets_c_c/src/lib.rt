@@ -3,6 +3,7 @@
 
 ghost use Rattle.std.specs.Prelude.{◌≡◌, length};
 ghost use mir.Val.{bool_byte};
+ghost use Rattle.limits.specs.Refusals.{answer_of};
 ghost use Rattle.merges.specs.Votes.{no_of};
 ghost use Rattle.packets_c.specs.Desk.{voters, desk_of, proposed_of, proposed_left};
 ghost use Rattle.packets_c.specs.Console.{ce_numbers, pipeline_numbers, ce_told, pipeline_told, handed, ce_wrote, ce_left, pipeline_wrote, pipeline_left, next_of};
@@ -23,9 +24,9 @@ pub extern "C" fn ce_packet_read(
     numbers: &mut [u64],
     bytes: &mut [u8],
 ) -> u64
-    ensures value { result ≡ (ce_told text.now text_len (length numbers.old) (length bytes.old)).refusal }
-    ensures numbers_after { numbers.new ≡ handed (ce_told text.now text_len (length numbers.old) (length bytes.old)).refusal (ce_numbers (ce_told text.now text_len (length numbers.old) (length bytes.old)).packet) numbers.old }
-    ensures bytes_after { bytes.new ≡ handed (ce_told text.now text_len (length numbers.old) (length bytes.old)).refusal (ce_told text.now text_len (length numbers.old) (length bytes.old)).packet.proposal_data.bytes bytes.old }
+    ensures value { result ≡ answer_of (ce_told text.now text_len (length numbers.old) (length bytes.old)) }
+    ensures numbers_after { numbers.new ≡ handed (ce_told text.now text_len (length numbers.old) (length bytes.old)) ce_numbers numbers.old }
+    ensures bytes_after { bytes.new ≡ handed (ce_told text.now text_len (length numbers.old) (length bytes.old)) (λ p. p.proposal_data.bytes) bytes.old }
 {
     packets_c::console::ce_packet_read(text, text_len, numbers, bytes)
 }
@@ -40,7 +41,7 @@ pub extern "C" fn ce_packet_write(
     at: u64,
     next: &mut u64,
 ) -> u64
-    ensures value { result ≡ (ce_wrote numbers.now bytes.now buf.old at).refusal }
+    ensures value { result ≡ answer_of (ce_wrote numbers.now bytes.now buf.old at) }
     ensures buf_after { buf.new ≡ ce_left numbers.now bytes.now buf.old at }
     ensures next_after { next.new ≡ next_of (ce_wrote numbers.now bytes.now buf.old at) next.old }
 {
@@ -55,9 +56,9 @@ pub extern "C" fn pipeline_packet_read(
     numbers: &mut [u64],
     bytes: &mut [u8],
 ) -> u64
-    ensures value { result ≡ (pipeline_told text.now text_len (length numbers.old) (length bytes.old)).refusal }
-    ensures numbers_after { numbers.new ≡ handed (pipeline_told text.now text_len (length numbers.old) (length bytes.old)).refusal (pipeline_numbers (pipeline_told text.now text_len (length numbers.old) (length bytes.old)).packet) numbers.old }
-    ensures bytes_after { bytes.new ≡ handed (pipeline_told text.now text_len (length numbers.old) (length bytes.old)).refusal (pipeline_told text.now text_len (length numbers.old) (length bytes.old)).packet.transaction_data.bytes bytes.old }
+    ensures value { result ≡ answer_of (pipeline_told text.now text_len (length numbers.old) (length bytes.old)) }
+    ensures numbers_after { numbers.new ≡ handed (pipeline_told text.now text_len (length numbers.old) (length bytes.old)) pipeline_numbers numbers.old }
+    ensures bytes_after { bytes.new ≡ handed (pipeline_told text.now text_len (length numbers.old) (length bytes.old)) (λ p. p.transaction_data.bytes) bytes.old }
 {
     packets_c::console::pipeline_packet_read(text, text_len, numbers, bytes)
 }
@@ -72,7 +73,7 @@ pub extern "C" fn pipeline_packet_write(
     at: u64,
     next: &mut u64,
 ) -> u64
-    ensures value { result ≡ (pipeline_wrote numbers.now bytes.now buf.old at).refusal }
+    ensures value { result ≡ answer_of (pipeline_wrote numbers.now bytes.now buf.old at) }
     ensures buf_after { buf.new ≡ pipeline_left numbers.now bytes.now buf.old at }
     ensures next_after { next.new ≡ next_of (pipeline_wrote numbers.now bytes.now buf.old at) next.old }
 {
@@ -123,7 +124,7 @@ pub extern "C" fn ce_packet_propose(
     buf: &mut [u8],
     next: &mut u64,
 ) -> u64
-    ensures value { result ≡ (proposed_of (voters n abort_probability seed) initiator term buf.old).refusal }
+    ensures value { result ≡ answer_of (proposed_of (voters n abort_probability seed) initiator term buf.old) }
     ensures buf_after { buf.new ≡ proposed_left (voters n abort_probability seed) initiator term buf.old }
     ensures next_after { next.new ≡ next_of (proposed_of (voters n abort_probability seed) initiator term buf.old) next.old }
 {

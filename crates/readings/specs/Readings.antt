@@ -1,7 +1,7 @@
 -- The readings of a room, by RULES 12: what each gives, and its refusal: where there is no such position (2, 8), the
 -- room is of the other kind (11), nobody has proposed (12, the initiator), or a text cannot be written (9, 10, as the
 -- writer of packets says). Assumes nothing: these are definitions.
-use Rattle.std.specs.Prelude.{ℕ, ◌%◌, Bool, true, false, ◌&&◌, List, eqb, ltb, get_or}
+use Rattle.std.specs.Prelude.{Result, Ok, Err, ℕ, ◌%◌, Bool, true, false, ◌&&◌, List, eqb, ltb, get_or}
 use mir.Val.{bool_byte}
 use Rattle.loops.specs.Pick.{either}
 use Rattle.marks.specs.Marks.{has}
@@ -9,13 +9,13 @@ use Rattle.graph.specs.Links.{is_size, position_refusal}
 use Rattle.packets.specs.Packets.{ce_text, ce_within, pipeline_text, pipeline_within}
 use Rattle.packets.specs.Writing.{wrote_of, left_of}
 use Rattle.merges.specs.Merging.{no_payload, outcome_of}
-use Rattle.packets.specs.declared.Wrote.{Wrote}
 use Rattle.packets.specs.declared.CeTwoPcPacket.{CeTwoPcPacket}
 use Rattle.merges.specs.declared.merging.Held.{Held}
 use Rattle.merges.specs.declared.merging.Held.TheVariants.{Empty, Unreadable, Packet}
 use Rattle.merges.specs.declared.merging.Payload.{Payload}
 use Rattle.merges.specs.declared.merging.ProposalOutcome.TheVariants as outcome
-use Rattle.limits.specs.Refusals.{bad_positions, other_kind, no_proposal}
+use Rattle.limits.specs.Refusals.{bad_positions, other_kind, no_proposal, number_of}
+use Rattle.limits.specs.declared.refusals.Refusal.{Refusal}
 use Rattle.engines.specs.Network.{or_else}
 use Rattle.engines.specs.Nodes.{no_node}
 use Rattle.pipeline.specs.Pending.{no_entry}
@@ -147,8 +147,9 @@ record_of r k = record_by r.conf.kind r.pipeline k
 
 -- ---- the text of what a position holds, written to the start of a lent buffer
 
-abbrev pub text_if : Wrote → TextReading
-text_if w = record { refusal = w.refusal; len = w.next }
+abbrev pub text_if : Result ℕ Refusal → TextReading
+text_if (Ok next) = record { refusal = 0; len = next }
+text_if (Err k) = record { refusal = number_of k; len = 0 }
 
 abbrev pub no_text : TextReading
 no_text = record { refusal = 0; len = 0 }

@@ -13,9 +13,10 @@ use engines::node::Node;
 use engines::settings::Settings;
 use graph::sets;
 use limits::refusals;
+use limits::refusals::Refusal;
 use merges::merging;
 use merges::merging::{Held, Payload, ProposalOutcome};
-use packets::{Data, Wrote, two_pc_ce, two_pc_pipeline};
+use packets::{Data, two_pc_ce, two_pc_pipeline};
 use pipeline::packet;
 use pipeline::pipeline::PipelinePart;
 use pipeline::two_pc_pipeline::{LogEntry, NodeTwoPcState, RoundPacket, TxLog};
@@ -490,12 +491,15 @@ pub fn record(r: Room, k: usize) -> RecordReading
 
 // ---- texts
 
-fn wrote(w: Wrote) -> TextReading
+fn wrote(w: Result<usize, Refusal>) -> TextReading
     ensures { result ≡ text_if w }
 {
-    TextReading {
-        refusal: w.refusal,
-        len: w.next,
+    match w {
+        Ok(len) => TextReading { refusal: 0, len },
+        Err(refusal) => TextReading {
+            refusal: u64::from(refusal),
+            len: 0,
+        },
     }
 }
 
