@@ -1,5 +1,6 @@
 -- RULES 7.1 and 7.2: the counts of a position, and what a slot's tick does to them. Assumes nothing.
-use Rattle.std.specs.Prelude.{◌≡◌, ℕ, ◌+◌, ◌%◌, ◌^◌, ◌<◌, Bool, true, false, List, [], ◌∷◌, get_or, slice_index_or, slice_set}
+use Rattle.std.specs.Prelude.{◌≡◌, ℕ, ◌+◌, ◌%◌, ◌^◌, ◌<◌, Bool, true, false, List, [], ◌∷◌, get_or, slice_index_or, slice_set, eqb}
+use Rattle.loops.specs.Pick.{either}
 use Rattle.loops.specs.Upto.{upto}
 use Rattle.marks.specs.Marks.{marks}
 use Rattle.engines.specs.Clamp.{at_most64}
@@ -94,6 +95,15 @@ pub record Alike (v w : Node) : Type 0 where
 pub data Below (b : ℕ) : List Node → Type 0 where
   none : Below b []
   more : (v : Node) {l : List Node} → v.slots_listen < b → v.slots_flood < b → v.slots_sleep < b → Below b l → Below b (v ∷ l)
+
+-- A state as a number; a number that is none of the three reads as Sleep.
+abbrev pub state_number : NodeState → ℕ
+state_number Listen = 0
+state_number Flood = 1
+state_number Sleep = 2
+
+abbrev pub state_numbered : ℕ → NodeState
+state_numbered n = either (eqb n 0) Listen (either (eqb n 1) Flood Sleep)
 
 -- Whether position i listens, floods or sleeps.
 abbrev pub is_listen : NodeState → Bool

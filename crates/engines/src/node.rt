@@ -6,7 +6,7 @@ ghost use Rattle.marks.specs.Marks.{has};
 ghost use Rattle.engines.specs.Clamp.{at_most64};
 ghost use Rattle.engines.specs.Marked.{place};
 ghost use Rattle.engines.specs.declared.node.Node.{Node};
-ghost use Rattle.engines.specs.Nodes.{no_node, reset_round, ticked, ticked_all, is_listen, is_flood, is_sleep, sets_of};
+ghost use Rattle.engines.specs.Nodes.{no_node, reset_round, ticked, ticked_all, is_listen, is_flood, is_sleep, sets_of, state_number, state_numbered};
 
 use graph::sets;
 
@@ -15,6 +15,28 @@ pub enum NodeState {
     Listen = 0,
     Flood = 1,
     Sleep = 2,
+}
+
+// Each state's number for C.
+impl From<NodeState> for u64 {
+    ghost from_gives = { λ s n. n ≡ state_number s };
+
+    fn from(state: NodeState) -> u64 {
+        state as u64
+    }
+}
+
+// And the way back: a number above 2 reads as Sleep.
+impl From<u64> for NodeState {
+    ghost from_gives = { λ n s. s ≡ state_numbered n };
+
+    fn from(n: u64) -> NodeState {
+        match n {
+            0 => NodeState::Listen,
+            1 => NodeState::Flood,
+            _ => NodeState::Sleep,
+        }
+    }
 }
 
 // The small fields stand together, so that a position takes 48 bytes.

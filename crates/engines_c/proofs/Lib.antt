@@ -1,5 +1,5 @@
+pub mod Filling
 pub mod Storing
 pub mod Stating
-pub mod Fitting
 pub mod Refusing
 pub mod Lowest

@@ -5,8 +5,8 @@ use Prim.Native.Nat.{ℕ, suc, ◌+◌, ◌-◌, ◌≤◌, ◌<◌}
 use native.Mathlib.Numerals.{add-one}
 use native.Mathlib.Omega.{arith}
 use lib.ListN.{length, take, get_or, set}
-use lib.Seq.{sets, take-suc, length-take-le, length-sets, set_out, ext_get_or}
-use Rattle.loops.specs.Table.{tabulate, filled, filled_at, length_filled}
+use lib.Seq.{sets, take-suc, length-take-le, length-sets, set_out}
+use Rattle.loops.specs.Table.{tabulate, filled}
 use Rattle.merges.specs.declared.merging.Payload.{Payload}
 use Rattle.engines_c.specs.Payloads.{payload_numbers, put_payload}
 use Rattle.loops.specs.Stores.{sets_append}
@@ -29,12 +29,6 @@ filled_whole d k f = rw (none k, append-nil)
   where
     none : (k : ℕ) → k - k ≡ 0
     none k = omega arith
-
--- an array that is filled from another of its length equals it
-pub filled_copy : (l : List ℕ) (k : ℕ) → length l ≡ k → filled 0 k k (λ j. get_or l j 0) ≡ l
-filled_copy l k e =
-    ext_get_or 0 (filled 0 k k (λ j. get_or l j 0)) l (length_filled 0 k k (λ j. get_or l j 0) (omega arith) ∙ sym e)
-    (λ i h. filled_at 0 k k (λ j. get_or l j 0) i 0 (rw (length_filled 0 k k (λ j. get_or l j 0) (omega arith)) at h))
 
 -- two runs of stores, of values that are known
 pub put_two : (x first rest : List ℕ) (i j : ℕ) {a b f r : List ℕ} → b ≡ sets a j r → a ≡ sets x i f → f ≡ first → r ≡ rest → b ≡ sets (sets x i first) j rest

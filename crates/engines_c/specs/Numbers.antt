@@ -8,9 +8,8 @@ use Rattle.loops.specs.Pick.{either}
 use Rattle.loops.specs.Table.{tabulate}
 use Rattle.loops.specs.Upto.{upto}
 use Rattle.engines.specs.Nodes.{no_node}
+pub use Rattle.engines.specs.Nodes.{state_number, state_numbered}
 use Rattle.engines.specs.declared.node.Node.{Node}
-use Rattle.engines.specs.declared.node.NodeState.{NodeState}
-use Rattle.engines.specs.declared.node.NodeState.TheVariants.{Listen, Flood, Sleep}
 use Rattle.engines.specs.declared.metrics.MetricsCollector.{MetricsCollector}
 use Rattle.engines.specs.declared.network.Network.{Network}
 
@@ -21,15 +20,6 @@ cell xs at k = get_or xs (at + k) 0
 -- 0 is no, every other number yes
 abbrev pub truth : ℕ → Bool
 truth n = either (eqb n 0) false true
-
-abbrev pub state_number : NodeState → ℕ
-state_number Listen = 0
-state_number Flood = 1
-state_number Sleep = 2
-
--- a number that is none of the three reads as Sleep
-abbrev pub state_numbered : ℕ → NodeState
-state_numbered n = either (eqb n 0) Listen (either (eqb n 1) Flood Sleep)
 
 -- A node is 8 numbers in the order of its fields.
 unfoldable pub node_at : List ℕ → ℕ → ℕ → Node

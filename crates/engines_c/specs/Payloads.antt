@@ -6,7 +6,7 @@ use Rattle.limits.specs.Limits.{positions, data_bytes}
 use Rattle.loops.specs.Pick.{either}
 use Rattle.loops.specs.Table.{tabulate}
 use Rattle.loops.specs.Upto.{upto}
-use Rattle.marks.specs.Marks.{all_of}
+use Rattle.std.specs.List.{list_all, range_with_len}
 use Rattle.packets.specs.Packets.{limits}
 use Rattle.packets_c.specs.Console.{phase_number, phase_numbered}
 use Rattle.merges.specs.Merging.{no_payload}
@@ -47,7 +47,7 @@ payload_at xs at k = record { held = held_numbered (cell xs at k); packet = pack
 -- the lengths within the limits, and the data bytes. Marks behind the bitmap's length say nothing to a merge, and are
 -- let be.
 unfoldable pub bytes_fit : List ℕ → ℕ → ℕ → Bool
-bytes_fit xs at k = all_of data_bytes (λ i. leb (cell xs at (k + i)) 255)
+bytes_fit xs at k = list_all (λ i. leb (cell xs at (k + i)) 255) (range_with_len 0 data_bytes)
 
 unfoldable pub payload_fits : List ℕ → ℕ → ℕ → Bool
 payload_fits xs at k =
@@ -56,7 +56,7 @@ payload_fits xs at k =
 
 -- those of each of the first n positions are payloads; the places behind them are nobody's and may hold any numbers
 unfoldable pub held_fits : List ℕ → ℕ → ℕ → Bool
-held_fits xs at n = all_of (at_most64 n) (λ i. payload_fits xs at (i * 38))
+held_fits xs at n = list_all (λ i. payload_fits xs at (i * 38)) (range_with_len 0 (at_most64 n))
 
 -- a payload for each position, one behind the other
 unfoldable pub held_at : List ℕ → ℕ → List Payload

@@ -17,13 +17,7 @@ use limits::refusals;
 fn links_of(links: &[u64]) -> [u64; limits::POSITIONS]
     ensures { result ≡ links_of links.now }
 {
-    let mut a = [0u64; limits::POSITIONS];
-    let mut i: usize = 0;
-    while i < limits::POSITIONS {
-        a[i] = numbers::number(links, i);
-        i += 1;
-    }
-    a
+    std::array::from_fn(|i| numbers::number(links, i))
 }
 
 // What the numbers of a call say of a round. A capture round reads no repeats.
@@ -40,20 +34,20 @@ fn conf_of(
     ensures { result ≡
         conf_of links.now n abort_probability seed listen_timeout loss_rate interval slots }
 {
-    let adj = links_of(links);
-    let graph = NetworkGraph { n, adj };
-    let settings = Settings {
-        loss_rate,
-        abort_probability,
-        seed,
-        listen_timeout,
-        flood_repeats: 0,
-        round_slots: slots,
-        slots_given: true,
-    };
     RoundConf {
-        graph,
-        settings,
+        graph: NetworkGraph {
+            n,
+            adj: links_of(links),
+        },
+        settings: Settings {
+            loss_rate,
+            abort_probability,
+            seed,
+            listen_timeout,
+            flood_repeats: 0,
+            round_slots: slots,
+            slots_given: true,
+        },
         interval,
         length: slots,
     }
@@ -89,20 +83,18 @@ fn asked(xs: &[u64], conf: RoundConf, initiator: usize) -> u64
     0
 }
 
+#[tactic(auto, unfolding(crate::specs::Console::state_at))]
 fn state_of(xs: &[u64]) -> CeState
     ensures { result ≡ state_at xs.now }
 {
-    let network = numbers::network_of(xs, 2, 8, 16);
-    let held = payloads::held_of(xs, 528);
-    let draw = Draw {
-        at: numbers::number(xs, 4) as usize,
-        short: false,
-    };
     CeState {
-        network,
-        held,
-        draw,
-        ended: numbers::is_yes(numbers::number(xs, 5)),
+        network: numbers::network_of(xs, 2, 8, 16),
+        held: payloads::held_of(xs, 528),
+        draw: Draw {
+            at: numbers::number(xs, 4) as usize,
+            short: false,
+        },
+        ended: numbers::number(xs, 5) != 0,
     }
 }
 
@@ -110,21 +102,16 @@ fn state_of(xs: &[u64]) -> CeState
 fn counters_of(a: CeAnswer) -> [u64; 3]
     ensures { result ≡ counters a }
 {
-    let c = a.state;
-    let draw = c.draw;
-    [a.used as u64, draw.at as u64, c.ended as u64]
+    [a.used as u64, a.state.draw.at as u64, a.state.ended as u64]
 }
 
 fn put_state(xs: &mut [u64], a: CeAnswer)
     ensures { xs.new ≡ put_state a xs.old }
 {
-    let c = a.state;
-    let network = c.network;
-    let held = c.held;
     let values = counters_of(a);
     numbers::put_run(xs, 3, 0, &values);
-    numbers::put_network(xs, 2, 8, 16, network);
-    payloads::put_held(xs, 528, held);
+    numbers::put_network(xs, 2, 8, 16, a.state.network);
+    payloads::put_held(xs, 528, a.state.held);
 }
 
 // One round of at most `slots` slots. The state: slot, next row slot, bytes sent, rows used, cursor, whether the goal

@@ -1,16 +1,8 @@
-use mathlib.Core.Path.{◌∙◌}
-use native.Mathlib.Omega.{arith}
-use Rattle.loops.specs.Table.{filled_none, filled_turn, filled_all}
+use Rattle.std.proofs.Common.{rules, get_or}
 use Rattle.engines_c.specs.Console.{links_of}
-use Rattle.engines_c.proofs.Storing.{filled_whole}
+use Rattle.engines_c.proofs.Filling.{made_by}
 use Rattle.engines_c.proofs.console.links_of.Goals as goal
-
-pub loop-i-init : goal.loop-i-init
-loop-i-init c = (omega arith, filled_none 0 64 _)
-
-pub loop-i-preserved : goal.loop-i-preserved
-loop-i-preserved c = (omega arith, filled_turn 0 64 _ (omega arith) c.loop-i.invariant.1 c.number.ensures)
 
 pub returns : goal.returns
 unfolding links_of
-returns c = filled_all 0 64 _ c.loop-i.invariant.0 c.loop-i-test.false c.loop-i.invariant.1 ∙ filled_whole 0 64 _
+returns c = made_by _ _ (λ i. get_or c.args.links.now i 0) 0 (λ i y q k. search rules) _ 64 c.from_fn.ensures.items

@@ -1,16 +1,9 @@
-use mathlib.Core.Path.{◌∙◌}
-use native.Mathlib.Omega.{arith}
-use Rattle.loops.specs.Table.{filled_none, filled_turn, filled_all}
+use Rattle.std.proofs.Common.{rules, ◌+◌, ◌%◌}
+use Rattle.engines_c.specs.Numbers.{cell}
 use Rattle.engines_c.specs.Payloads.{bytes_at}
-use Rattle.engines_c.proofs.Storing.{filled_whole}
+use Rattle.engines_c.proofs.Filling.{made_by}
 use Rattle.engines_c.proofs.payloads.bytes_of.Goals as goal
-
-pub loop-i-init : goal.loop-i-init
-loop-i-init c = (omega arith, filled_none 0 32 _)
-
-pub loop-i-preserved : goal.loop-i-preserved
-loop-i-preserved c = (omega arith, filled_turn 0 32 _ (omega arith) c.loop-i.invariant.1 (rw c.number_behind.ensures))
 
 pub returns : goal.returns
 unfolding bytes_at
-returns c = filled_all 0 32 _ c.loop-i.invariant.0 c.loop-i-test.false c.loop-i.invariant.1 ∙ filled_whole 0 32 _
+returns c = made_by _ _ (λ i. cell c.args.xs.now c.args.at (c.args.k + i) % 256) 0 (λ i y q k. search rules) _ 32 c.from_fn.ensures.items
