@@ -8,7 +8,8 @@ use Rattle.marks.specs.Marks.{has}
 use Rattle.engines.specs.Marked.{over_marks}
 use Rattle.pipeline.specs.Pending.{merge_votes, merge_abort, vote_of, fast_of, abort_all}
 use Rattle.engines.specs.Nodes.{sets_of}
-use Rattle.pipeline.specs.Pipeline.{parts_of, new_tx, old_tx, is_fresh, begin_tx, prepare_round, is_new, learnt, hear_new, merge_round, take_up, process_one, no_state, Processing, process_at, process_all}
+use Rattle.pipeline.specs.declared.process.AllProcessed.{AllProcessed}
+use Rattle.pipeline.specs.Pipeline.{parts_of, new_tx, old_tx, is_fresh, begin_tx, prepare_round, is_new, learnt, hear_new, merge_round, take_up, process_one, no_state, process_at, process_all}
 use Rattle.pipeline.specs.Round.{size_of, facts_of, initiator_of, preparing, flood_of, processing, close_round, run_round, start_draw, round_refusal, round_answer}
 use Rattle.engines.specs.declared.network.Network.{Network}
 use Rattle.engines.specs.declared.words.Draw.{Draw}
@@ -93,20 +94,20 @@ set_kept (x ∷ ss) (suc i) s h (suc j) = set_kept ss i s h j
 pub all_more : (a b c : List NodeTwoPcState) → AllKept a b → AllKept b c → AllKept a c
 all_more a b c g h j = grown_more (g j) (h j)
 
-at_kept : (ws : List ℕ) (p : Float) (facts : RoundFacts) (rounds : List ℕ) (q : RoundPacket) (i : ℕ) (x : Processing) → AllKept x.states (process_at ws p facts rounds q i x).states
+at_kept : (ws : List ℕ) (p : Float) (facts : RoundFacts) (rounds : List ℕ) (q : RoundPacket) (i : ℕ) (x : AllProcessed) → AllKept x.states (process_at ws p facts rounds q i x).states
 unfolding process_at
 at_kept ws p facts rounds q i x = set_kept x.states i _ (process_kept ws p facts rounds q i (get_or x.states i no_state) x.carried)
 
-pub processed_kept : (ws : List ℕ) (p : Float) (facts : RoundFacts) (rounds : List ℕ) (q : RoundPacket) (parts : ℕ) (g : Processing) → AllKept g.states (process_all ws p facts rounds q parts g).states
+pub processed_kept : (ws : List ℕ) (p : Float) (facts : RoundFacts) (rounds : List ℕ) (q : RoundPacket) (parts : ℕ) (g : AllProcessed) → AllKept g.states (process_all ws p facts rounds q parts g).states
 unfolding process_all over_marks
 processed_kept ws p facts rounds q parts g =
-    upto_holds (λ (x : Processing). AllKept g.states x.states) (λ i x. either (has parts i) (process_at ws p facts rounds q i x) x) 64 (λ i x _. turn i x) g (λ j. grown_same (log_of g.states j))
+    upto_holds (λ (x : AllProcessed). AllKept g.states x.states) (λ i x. either (has parts i) (process_at ws p facts rounds q i x) x) 64 (λ i x _. turn i x) g (λ j. grown_same (log_of g.states j))
   where
-    pick : (b : Bool) (x y : Processing) → AllKept g.states x.states → AllKept g.states y.states → AllKept g.states (either b x y).states
+    pick : (b : Bool) (x y : AllProcessed) → AllKept g.states x.states → AllKept g.states y.states → AllKept g.states (either b x y).states
     pick true x y a c = a
     pick false x y a c = c
 
-    turn : (i : ℕ) (x : Processing) → AllKept g.states x.states → AllKept g.states (either (has parts i) (process_at ws p facts rounds q i x) x).states
+    turn : (i : ℕ) (x : AllProcessed) → AllKept g.states x.states → AllKept g.states (either (has parts i) (process_at ws p facts rounds q i x) x).states
     turn i x a = pick (has parts i) (process_at ws p facts rounds q i x) x (all_more g.states x.states (process_at ws p facts rounds q i x).states a (at_kept ws p facts rounds q i x)) a
 
 pub close_kept : (ws : List ℕ) (conf : PipelineConf) (p : PipelinePart) (i : ℕ) (prep : Prepared) (f : FloodRun)

@@ -13,7 +13,8 @@ use Rattle.engines.proofs.Rounds.{length_fits, late_fits, placed_whole}
 use Rattle.flood.specs.Flood.{flood_round, flood_rows, flooded_of}
 use Rattle.flood.proofs.Flooding.{told_short, told_run, told_due}
 use Rattle.pipeline.specs.Pending.{join_marks}
-use Rattle.pipeline.specs.Pipeline.{parts_of, Processing, shortest_log, progress_all, stops_at}
+use Rattle.pipeline.specs.declared.process.AllProcessed.{AllProcessed}
+use Rattle.pipeline.specs.Pipeline.{parts_of, shortest_log, progress_all, stops_at}
 use Rattle.pipeline.specs.Round.{size_of, deliver_all, covered_of, initiator_of, preparing, bytes_of, flood_from, counted_in, processing, close_round, flood_of, run_round, RoundSurveyed, rows_of_round, is_done, early_refusal, start_draw, late_refusal, round_refusal, refused_with, accepted_with, round_answer, round_buffer}
 use Rattle.engines.specs.declared.words.Draw.{Draw}
 use Rattle.engines.specs.declared.network.Network.{Network}
@@ -70,7 +71,7 @@ pub close_is : (ws : List ℕ) (conf : PipelineConf) (p : PipelinePart) (i : ℕ
     → payloads ≡ deliver_all prep.packet parts p.payloads
     → holding ≡ join_marks p.holding parts
     → covered ≡ covered_of prep.packet (size_of conf) holding payloads
-    → ◌≡◌ {A = Processing} (record { states = states; carried = carried }) (processing ws conf p i prep f parts)
+    → ◌≡◌ {A = AllProcessed} (record { states = states; carried = carried }) (processing ws conf p i prep f parts)
     → done ≡ shortest_log (size_of conf) states
     → nodes ≡ progress_all (size_of conf) conf.transactions done states f.network.nodes
     → stop ≡ stops_at conf.transactions done prep.txs.counter p.round

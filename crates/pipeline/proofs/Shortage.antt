@@ -5,7 +5,8 @@ use Rattle.engines.specs.Nodes.{sets_of}
 use Rattle.engines.specs.declared.words.Draw.{Draw}
 use Rattle.engines.proofs.Cursor.{Later, later_same, later_trans, next_later, either_later, marks_later}
 use Rattle.pipeline.specs.Pending.{vote_of}
-use Rattle.pipeline.specs.Pipeline.{parts_of, is_new, hear_new, is_answer, answer_nack, process_one, no_state, Processing, process_at, process_all}
+use Rattle.pipeline.specs.declared.process.AllProcessed.{AllProcessed}
+use Rattle.pipeline.specs.Pipeline.{parts_of, is_new, hear_new, is_answer, answer_nack, process_one, no_state, process_at, process_all}
 use Rattle.pipeline.specs.Round.{size_of, facts_of, processing, close_round}
 use Rattle.pipeline.specs.declared.two_pc_pipeline.NodeTwoPcState.{NodeTwoPcState}
 use Rattle.pipeline.specs.declared.two_pc_pipeline.RoundPacket.{RoundPacket}
@@ -30,13 +31,13 @@ module _ (ws : List ℕ) where
   unfolding process_one
   one_later p facts rounds q i s l = later_trans ws (new_later p i q s l.draw) (answer_later q.nack _ _)
 
-  at_later : (p : Float) (facts : RoundFacts) (rounds : List ℕ) (q : RoundPacket) (i : ℕ) (g : Processing) → Later ws g.carried.draw (process_at ws p facts rounds q i g).carried.draw
+  at_later : (p : Float) (facts : RoundFacts) (rounds : List ℕ) (q : RoundPacket) (i : ℕ) (g : AllProcessed) → Later ws g.carried.draw (process_at ws p facts rounds q i g).carried.draw
   unfolding process_at
   at_later p facts rounds q i g = one_later p facts rounds q i (get_or g.states i no_state) g.carried
 
-  all_later : (p : Float) (facts : RoundFacts) (rounds : List ℕ) (q : RoundPacket) (parts : ℕ) (g : Processing) → Later ws g.carried.draw (process_all ws p facts rounds q parts g).carried.draw
+  all_later : (p : Float) (facts : RoundFacts) (rounds : List ℕ) (q : RoundPacket) (parts : ℕ) (g : AllProcessed) → Later ws g.carried.draw (process_all ws p facts rounds q parts g).carried.draw
   unfolding process_all
-  all_later p facts rounds q parts g = marks_later ws (λ (x : Processing). x.carried.draw) (process_at ws p facts rounds q) (at_later p facts rounds q) parts g
+  all_later p facts rounds q parts g = marks_later ws (λ (x : AllProcessed). x.carried.draw) (process_at ws p facts rounds q) (at_later p facts rounds q) parts g
 
   pub close_short : (conf : PipelineConf) (p : PipelinePart) (i : ℕ) (prep : Prepared) (f : FloodRun) → f.draw.short ≡ true → (close_round ws conf p i prep f).draw.short ≡ true
   unfolding close_round processing

@@ -25,9 +25,10 @@ use Rattle.flood.specs.declared.flood.FloodRun.{FloodRun}
 use Rattle.pipeline.specs.Pending.{join_marks, logged_of, finalize_tx, open_tx, votes_at, merge_votes, merge_abort}
 use Rattle.pipeline.specs.Pending.{gap_at, gap_of, nack_of, vote_of, is_judged, judge_at, judged, fast_of, abort_at}
 use Rattle.pipeline.specs.Pending.{abort_all, own_vote}
+use Rattle.pipeline.specs.declared.process.AllProcessed.{AllProcessed}
 use Rattle.pipeline.specs.Pipeline.{data_of, piggyback_tx, packet_of, is_fresh, begin_tx, abort_of, known_votes}
 use Rattle.pipeline.specs.Pipeline.{round_packet, prepare_round, is_new, hear_new, merge_round, take_up, is_answer}
-use Rattle.pipeline.specs.Pipeline.{answer_nack, process_one, no_state, parts_of, Processing, process_at, process_all}
+use Rattle.pipeline.specs.Pipeline.{answer_nack, process_one, no_state, parts_of, process_at, process_all}
 use Rattle.pipeline.specs.Round.{no_packet, new_part, new_state, deliver_at, deliver_all, size_of, facts_of, initiator_of}
 use Rattle.pipeline.specs.Round.{preparing, processing, close_round, run_round, start_draw, round_refusal}
 use Rattle.pipeline.specs.Round.{round_answer}
@@ -310,11 +311,11 @@ module _ (n : ℕ) (small : n ≤ 64) where
       unfolding process_one
       one_small i s l b = answer_small _ _ b
 
-      record ProcessedWell (x : Processing) : Type 0 where
+      record ProcessedWell (x : AllProcessed) : Type 0 where
         votes : (v : ℕ) → VotesFit (get_or x.states v no_state)
         piggyback : SmallTx x.carried.piggyback
 
-      at_well : (i : ℕ) (x : Processing) → i < n → ProcessedWell x → ProcessedWell (process_at ws p facts rounds q i x)
+      at_well : (i : ℕ) (x : AllProcessed) → i < n → ProcessedWell x → ProcessedWell (process_at ws p facts rounds q i x)
       unfolding process_at
       at_well i x l w =
           let s = get_or x.states i no_state in
@@ -324,7 +325,7 @@ module _ (n : ℕ) (small : n ≤ 64) where
           }
 
       -- whoever takes part is one of the n
-      all_well : (i sleeping : ℕ) (g : Processing) → ProcessedWell g
+      all_well : (i sleeping : ℕ) (g : AllProcessed) → ProcessedWell g
           → ProcessedWell (process_all ws p facts rounds q (parts_of n i sleeping) g)
       unfolding process_all parts_of
       all_well i sleeping g h =

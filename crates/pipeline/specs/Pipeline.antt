@@ -26,6 +26,7 @@ use Rattle.pipeline.specs.declared.prepare.Prepared.{Prepared}
 use Rattle.pipeline.specs.declared.process.Learnt.{Learnt}
 use Rattle.pipeline.specs.declared.process.Carried.{Carried}
 use Rattle.pipeline.specs.declared.process.Processed.{Processed}
+use Rattle.pipeline.specs.declared.process.AllProcessed.{AllProcessed}
 use Rattle.pipeline.specs.declared.process.RoundFacts.{RoundFacts}
 
 -- ---- the packet
@@ -228,17 +229,13 @@ no_state = record { log = record { len = 0; entries = [] }; pending = 0; aborts 
 unfoldable pub parts_of : ℕ → ℕ → ℕ → ℕ
 parts_of n initiator sleeping = marks 64 (λ i. nat_lt i n && (has sleeping i || i == initiator))
 
-pub record Processing : Type 0 where
-  pub states : List NodeTwoPcState
-  pub carried : Carried
-
-abbrev pub put_back : ℕ → List NodeTwoPcState → Processed → Processing
+abbrev pub put_back : ℕ → List NodeTwoPcState → Processed → AllProcessed
 put_back i ss x = record { states = slice_set ss i x.state; carried = x.carried }
 
-unfoldable pub process_at : List ℕ → Float → RoundFacts → List ℕ → RoundPacket → ℕ → Processing → Processing
+unfoldable pub process_at : List ℕ → Float → RoundFacts → List ℕ → RoundPacket → ℕ → AllProcessed → AllProcessed
 process_at ws p facts rounds q i g = put_back i g.states (process_one ws p facts rounds q i (slice_index_or g.states i no_state) g.carried)
 
-unfoldable pub process_all : List ℕ → Float → RoundFacts → List ℕ → RoundPacket → ℕ → Processing → Processing
+unfoldable pub process_all : List ℕ → Float → RoundFacts → List ℕ → RoundPacket → ℕ → AllProcessed → AllProcessed
 process_all ws p facts rounds q parts g = over_marks parts (process_at ws p facts rounds q) g
 
 -- Progress: how many transactions everybody has finished, that is the length of the shortest log.

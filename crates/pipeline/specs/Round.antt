@@ -16,7 +16,8 @@ use Rattle.engines.specs.Nodes.{inc, sets_of}
 use Rattle.engines.specs.Network.{with_nodes, long_refusal, late_of, or_else}
 use Rattle.flood.specs.Flood.{flood_start, flood_round, flood_rows}
 use Rattle.pipeline.specs.Pending.{no_entry, join_marks}
-use Rattle.pipeline.specs.Pipeline.{packet_of, same_packet, no_state, prepare_round, parts_of, Processing, process_all, shortest_log, progress_all, stops_at}
+use Rattle.pipeline.specs.declared.process.AllProcessed.{AllProcessed}
+use Rattle.pipeline.specs.Pipeline.{packet_of, same_packet, no_state, prepare_round, parts_of, process_all, shortest_log, progress_all, stops_at}
 use Rattle.engines.specs.declared.words.Draw.{Draw}
 use Rattle.engines.specs.declared.metrics.MetricsCollector.{MetricsCollector}
 use Rattle.engines.specs.declared.network.Network.{Network}
@@ -132,7 +133,7 @@ abbrev pub stopping : PipelineConf → PipelinePart → Prepared → ℕ → Boo
 stopping conf p prep done = stops_at conf.transactions done prep.txs.counter p.round
 
 -- with other positions and other metrics
-abbrev pub end_network : PipelineConf → Network → Prepared → ℕ → List RoundPacket → Processing → ℕ → Network
+abbrev pub end_network : PipelineConf → Network → Prepared → ℕ → List RoundPacket → AllProcessed → ℕ → Network
 end_network conf w prep holding ps g done =
     record {
       nodes = progress_all (size_of conf) conf.transactions done g.states w.nodes;
@@ -144,7 +145,7 @@ end_network conf w prep holding ps g done =
       bytes_sent = w.bytes_sent;
     }
 
-abbrev pub end_part : PipelineConf → PipelinePart → Prepared → ℕ → List RoundPacket → Processing → ℕ → PipelinePart
+abbrev pub end_part : PipelineConf → PipelinePart → Prepared → ℕ → List RoundPacket → AllProcessed → ℕ → PipelinePart
 end_part conf p prep holding ps g done =
     record {
       round = next_round (stopping conf p prep done) p.round;
@@ -157,7 +158,7 @@ end_part conf p prep holding ps g done =
       holding = holding;
     }
 
-abbrev pub ended : PipelineConf → PipelinePart → Prepared → FloodRun → ℕ → List RoundPacket → Processing → RoundRun
+abbrev pub ended : PipelineConf → PipelinePart → Prepared → FloodRun → ℕ → List RoundPacket → AllProcessed → RoundRun
 ended conf p prep f holding ps g =
     let done = shortest_log (size_of conf) g.states in
     record {
@@ -167,7 +168,7 @@ ended conf p prep f holding ps g =
     }
 
 -- whoever takes part processes the packet; the initiator's own state is as it was prepared
-unfoldable pub processing : List ℕ → PipelineConf → PipelinePart → ℕ → Prepared → FloodRun → ℕ → Processing
+unfoldable pub processing : List ℕ → PipelineConf → PipelinePart → ℕ → Prepared → FloodRun → ℕ → AllProcessed
 processing ws conf p i prep f parts =
     process_all ws conf.round.settings.abort_probability (facts_of conf p f.network.slot) prep.txs.rounds
     prep.packet parts

@@ -8,4 +8,5 @@ mod pending;
 pub mod pipeline;
 mod prepare;
 mod process;
+mod round;
 pub mod two_pc_pipeline;

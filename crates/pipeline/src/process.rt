@@ -168,7 +168,7 @@ pub fn process_all(
     states: [NodeTwoPcState; 64],
     l: Carried,
 ) -> AllProcessed
-    ensures { record { states = result.states; carried = result.carried } ≡ process_all words.now p facts rounds.now q parts (record { states = states; carried = l }) }
+    ensures { result ≡ process_all words.now p facts rounds.now q parts (record { states = states; carried = l }) }
 {
     let mut ss = states;
     let mut m = l;

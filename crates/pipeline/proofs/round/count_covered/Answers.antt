@@ -1,7 +1,7 @@
 use Rattle.std.proofs.Common.{◌∙◌, refl, rules}
 use Rattle.pipeline.proofs.Counting.{packet_eq, cover_yes, cover_out, cover_other}
-use Rattle.pipeline.proofs.pipeline.count_covered.Goals.{then-is_marked+then-eq, else-is_marked, else-is_marked-via-then-is_marked+else-eq, else-is_marked-via-else-is_marked}
-use Rattle.pipeline.proofs.pipeline.count_covered.Goals as goal
+use Rattle.pipeline.proofs.round.count_covered.Goals.{then-is_marked+then-eq, else-is_marked, else-is_marked-via-then-is_marked+else-eq, else-is_marked-via-else-is_marked}
+use Rattle.pipeline.proofs.round.count_covered.Goals as goal
 
 pub loop-i-preserved : goal.loop-i-preserved
 loop-i-preserved c =
