@@ -1,49 +1,55 @@
--- A search for a line's end, turn by turn. Assumes nothing.
-use mathlib.Core.Bool.{Bool, true, not, ◌&&◌}
+-- Where a search for a line's end comes to. Assumes nothing.
+use mathlib.Core.Bool.{Bool, true, false, cond}
 use mathlib.Core.List.{List}
-use mathlib.Core.Path.{◌≡◌, ap, ◌∙◌}
-use Prim.Native.Nat.{ℕ, ◌+◌, ◌≤◌, ◌<◌}
-use native.Mathlib.Decide.{dec_lt}
+use mathlib.Core.Path.{◌≡◌, refl, sym, ap, ◌∙◌}
+use Prim.Native.Nat.{ℕ, ◌+◌, ◌-◌, ◌≤◌, ◌<◌}
 use native.Mathlib.Omega.{arith}
-use lib.Dec.{eqb}
-use lib.ListN.{length, get_or}
-use borrow.Author.Tests.{eqb-false, not-true}
-use Rattle.marks.specs.Sets.{and_true}
+use lib.ListN.{length, drop, get_or, length-drop}
+use lib.Seq.{get_or-drop}
+use borrow.Author.Tests.{ltb-false, eq-eqb, eqb-true, both_ways}
+use Rattle.std.specs.Prelude.{Some, None, nat_lt}
+use Rattle.std.specs.List.{position, position_or_len}
+use Rattle.std.proofs.lemmas.List.Quantifiers.{position-Some}
+use Rattle.std.proofs.lemmas.List.Sums.{fails_before_first}
 use Rattle.lines.specs.Ends.{Unbroken, NextEnd}
-use Rattle.lines.specs.Input.{line_end}
+use Rattle.lines.specs.Feeding.{ends_line}
 
-pub unbroken_none : (text : List ℕ) (at : ℕ) → Unbroken text at at
-unbroken_none text at k a b e = omega arith
+module _ (text : List ℕ) (at : ℕ) (h : at ≤ length text) where
+  -- the byte at place k, as the search counts
+  counted : (k : ℕ) → at ≤ k → get_or (drop at text) (k - at) 0 ≡ get_or text k 0
+  counted k l = get_or-drop at text (k - at) 0 ∙ ap (λ (j : ℕ). get_or text j 0) (sum at k l)
+    where
+      sum : (a k : ℕ) → a ≤ k → a + (k - a) ≡ k
+      sum a k l = omega arith
 
--- up to i, and on from there
-pub unbroken_on : (text : List ℕ) (at i j : ℕ) → Unbroken text at i → Unbroken text i j → Unbroken text at j
-unbroken_on text at i j u v k a b e = go (dec_lt k i)
-  where
-    go : Dec (k < i) → ⊥
-    go (yes h) = u k a h e
-    go (no h) = v k (omega arith) b e
+  -- no byte before place e ends a line, as the search saw
+  clear : (e : ℕ) → ((j : ℕ) → at + j < e → ends_line (get_or (drop at text) j 0) ≡ false) → Unbroken text at e
+  clear e f k l m q = both_ways _ (f (k - at) (omega arith)) (eq-eqb _ _ (counted k l ∙ q))
 
-pub unbroken_more : (text : List ℕ) (at i : ℕ) → Unbroken text at i → (get_or text i 0 ≡ line_end → ⊥) → Unbroken text at (i + 1)
-unbroken_more text at i u n = unbroken_on text at i (i + 1) u here
-  where
-    is : (k : ℕ) → i ≤ k → k < i + 1 → i ≡ k
-    is k a b = omega arith
+  pub found : (i : ℕ) → position ends_line (drop at text) ≡ Some i → NextEnd text at (at + i) × (at + i < length text)
+  found i e =
+      let p = position-Some ends_line (drop at text) i 0 e in
+      let l : at + i < length text = omega (arith, p.0, length-drop at text) in (
+        record {
+          from = omega arith;
+          within = omega arith;
+          before = clear (at + i) (λ j m. p.2 j (omega arith));
+          there = λ _. sym (get_or-drop at text i 0) ∙ eqb-true _ _ p.1;
+        },
+        l,
+      )
 
-    here : Unbroken text i (i + 1)
-    here k a b e = n (ap (λ (j : ℕ). get_or text j 0) (is k a b) ∙ e)
-
--- a turn that only notes what it finds
-pub unbroken_noted : (text : List ℕ) (at i : ℕ) {good : Bool} → (good ≡ true → Unbroken text at i) → (good && not (eqb (get_or text i 0) line_end)) ≡ true → Unbroken text at (i + 1)
-unbroken_noted text at i {good} u t =
-    let b = and_true good (not (eqb (get_or text i 0) line_end)) t in
-    unbroken_more text at i (u b.0) (eqb-false _ _ (not-true _ b.1))
-
--- all were looked at
-pub unbroken_all : (text : List ℕ) (at i j : ℕ) → i ≤ j → j ≤ i → Unbroken text at i → Unbroken text at j
-unbroken_all text at i j h g u k a b e = u k a (omega arith) e
-
-pub found : (text : List ℕ) (at i : ℕ) → at ≤ i → i < length text → Unbroken text at i → get_or text i 0 ≡ line_end → NextEnd text at i
-found text at i h g u e = record { from = h; within = omega arith; before = u; there = λ l. e }
-
-pub none_found : (text : List ℕ) (at i : ℕ) → at ≤ i → i ≤ length text → length text ≤ i → Unbroken text at i → NextEnd text at i
-none_found text at i h g l u = record { from = h; within = g; before = u; there = λ m. absurd (omega arith) }
+  pub none_found : position ends_line (drop at text) ≡ None → NextEnd text at (length text)
+  none_found e =
+      let p = position_or_len ends_line (drop at text) in
+      let far : length (drop at text) ≤ p = ltb-false p (length (drop at text)) (no (nat_lt p (length (drop at text))) p e) in
+      record {
+        from = h;
+        within = omega arith;
+        before = clear (length text) (λ j m. fails_before_first ends_line (drop at text) j 0 (omega (arith, length-drop at text)));
+        there = λ m. absurd (omega arith);
+      }
+    where
+      no : (b : Bool) (p : ℕ) → cond b (Some p) None ≡ None → b ≡ false
+      no true p e = cc
+      no false p e = refl

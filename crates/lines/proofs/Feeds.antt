@@ -1,5 +1,5 @@
 -- The lines of a text, one after the other: what is left to be done comes to what was to be done at first. Assumes nothing.
-use mathlib.Core.Bool.{Bool, true, false, ◌&&◌}
+use mathlib.Core.Bool.{true, false}
 use mathlib.Core.List.{List, [], ◌∷◌, ◌++◌}
 use mathlib.Core.Logic.{◌⊎◌, inl, inr}
 use mathlib.Core.Path.{◌≡◌, refl, sym, ap, ap₂, ◌∙◌}
@@ -7,17 +7,17 @@ use Prim.Native.Nat.{ℕ, zero, suc, ◌+◌, ◌-◌, ◌≤◌, ◌<◌}
 use native.Mathlib.Nat.{add-zero}
 use native.Mathlib.Numerals.{add-one}
 use native.Mathlib.Omega.{arith}
-use lib.Dec.{leb}
 use lib.ListN.{length, take, drop, get_or, length-drop, length-append, drop_of_length-le}
 use lib.Seq.{drop-cons, take-suc, get_or-drop, length-take-le}
 use borrow.Author.Tests.{eq-eqb, ne_eqb, lt-ltb, le-ltb, le-leb, lt-leb}
+use Rattle.std.specs.Prelude.{Ok, Err}
+use Rattle.limits.specs.declared.refusals.Refusal.TheVariants.{NoFit}
 use Rattle.texts.specs.Put.{Put, written, written_nil, written_more}
 use Rattle.frame.specs.Bounds.{frame_words, ended_bytes}
 use Rattle.frame.specs.Listing.{words_in}
-use Rattle.lines.specs.declared.feed.Fed.{Fed}
 use Rattle.lines.specs.Ends.{Unbroken, NextEnd}
 use Rattle.lines.specs.Input.{line_end, ended_of, listed_lines}
-use Rattle.lines.specs.Feeding.{Feed, Feeds, stopped, behind, feed_by, words_behind, feeds, feed_of, fed_of, fed_words, fed_out}
+use Rattle.lines.specs.Feeding.{Feed, Feeds, stopped, behind, feed_by, words_behind, feeds, feed_of, fed_to, fed_of, fed_words, fed_out}
 
 -- from place a up to place b
 abbrev pub cut : List ℕ → ℕ → ℕ → List ℕ
@@ -170,9 +170,9 @@ module _ (text : List ℕ) (n : ℕ) (words₀ out₀ : List ℕ) (used : ℕ) w
     stops : left text (length out₀ - o) from e ≡ stopped (cut text from e) (drop e text) → record { line = cut text from e; rest = drop e text; used = o; words = words; out = out } ≡ first
     stops q = sym (ending_stopped (cut text from e) (drop e text) o words out) ∙ ap (λ (x : Feed). ending x o words out) (sym q) ∙ g.same
 
-    pub came_to : {r : Fed} → n ≤ length text → frame_words ≤ length words₀ → used ≤ length out₀ → left text (length out₀ - o) from e ≡ stopped (cut text from e) (drop e text) → r ≡ record { refusal = 0; from = from; at = e; used = o } → Feeds text n words₀ out₀ used r words out
-    unfolding fed_of fed_words fed_out
-    came_to h k m q a =
+    pub came_to : n ≤ length text → frame_words ≤ length words₀ → used ≤ length out₀ → left text (length out₀ - o) from e ≡ stopped (cut text from e) (drop e text) → Feeds text n words₀ out₀ used (Ok (record { from = from; at = e; used = o })) words out
+    unfolding fed_to fed_of fed_words fed_out
+    came_to h k m q =
         let y : feeds (length text) n (length words₀) (length out₀) used ≡ true = rw (le-leb n (length text) h, le-leb frame_words (length words₀) k, le-leb used (length out₀) m) in
         let s = stops q in
         let le : length (cut text from e) ≡ e - from = cut_length text from e g.within in
@@ -182,8 +182,8 @@ module _ (text : List ℕ) (n : ℕ) (words₀ out₀ : List ℕ) (used : ℕ) w
         let fr : from ≡ length text - length first.rest - length first.line = omega (arith, g.within, g.order) in
         let us : o ≡ first.used = ap (λ (x : End). x.used) s in
         record {
-          answer = a ∙ rw (y, ← fr, ← at, ← us);
-          room = omega (arith, g.place, ap (λ (x : Fed). x.used) a);
+          answer = rw (y, ← fr, ← at, ← us);
+          room = g.place;
           words_left = rw y (ap (λ (x : End). x.words) s);
           out_left = rw y (ap (λ (x : End). x.out) s);
         }
@@ -193,41 +193,29 @@ module _ (text : List ℕ) (n : ℕ) (words₀ out₀ : List ℕ) (used : ℕ) w
   abbrev pub Asked : Type 0
   Asked = (n ≤ length text) × (frame_words ≤ length words₀) × (used ≤ length out₀)
 
-  pub loop_left : {from at o : ℕ} {words out : List ℕ} {r : Fed} → Asked → Going from at o words out → length text ≤ at → r ≡ record { refusal = 0; from = from; at = at; used = o } → Feeds text n words₀ out₀ used r words out
-  loop_left {from} {at} {o} p g h a = came_to g p.0 p.1 p.2 (at_none text (length out₀ - o) from at h) a
+  module _ (p : Asked) {from at o : ℕ} {words out : List ℕ} (g : Going from at o words out) where
+    pub no_end : NextEnd text at (length text) → Feeds text n words₀ out₀ used (Ok (record { from = from; at = length text; used = o })) words out
+    no_end s = came_to (going_on g s) p.0 p.1 p.2 (at_none text (length out₀ - o) from (length text) (omega arith))
 
-  module _ (p : Asked) {from at o : ℕ} {words out : List ℕ} (g : Going from at o words out) {e : ℕ} (s : NextEnd text at e) where
-    pub no_end : {r : Fed} → e ≡ length text → r ≡ record { refusal = 0; from = from; at = e; used = o } → Feeds text n words₀ out₀ used r words out
-    no_end h a = loop_left p (going_on g s) (omega arith) a
+  module _ (p : Asked) {from at o : ℕ} {words out : List ℕ} (g : Going from at o words out) {e : ℕ} (s : NextEnd text at e) (l : e < length text) where
+    pub no_room : length out - o < ended_bytes → Feeds text n words₀ out₀ used (Ok (record { from = from; at = e; used = o })) words out
+    no_room f = came_to (going_on g s) p.0 p.1 p.2 (at_full text (length out₀ - o) from e l (s.there l) (omega (arith, g.same_out)))
 
-    pub no_room : {r : Fed} → (e ≡ length text → ⊥) → length out - o < ended_bytes → r ≡ record { refusal = 0; from = from; at = e; used = o } → Feeds text n words₀ out₀ used r words out
-    no_room h f a =
-        let l : e < length text = omega (arith, s.within) in
-        came_to (going_on g s) p.0 p.1 p.2 (at_full text (length out₀ - o) from e l (s.there l) (omega (arith, g.same_out))) a
+    pub next_line : {o' : ℕ} {words' out' : List ℕ} → ended_bytes ≤ length out - o → Put out o (ended_of (cut text from e)) o' out' → o' ≤ length out → words' ≡ words_in (cut text from e) words → length words' ≡ length words → length out' ≡ length out → Going (e + 1) (e + 1) o' words' out'
+    next_line f q m w lw lo = going_line (going_on g s) l (s.there l) (omega (arith, g.same_out)) q (omega (arith, g.same_out)) w lw lo
 
-    pub next_line : {o' : ℕ} {words' out' : List ℕ} → (e ≡ length text → ⊥) → ended_bytes ≤ length out - o → Put out o (ended_of (cut text from e)) o' out' → o' ≤ length out → words' ≡ words_in (cut text from e) words → length words' ≡ length words → length out' ≡ length out → Going (e + 1) (e + 1) o' words' out'
-    next_line h f q m w lw lo =
-        let l : e < length text = omega (arith, s.within) in
-        going_line (going_on g s) l (s.there l) (omega (arith, g.same_out)) q (omega (arith, g.same_out)) w lw lo
+-- ---- what is refused, as one test is made behind the other
 
--- ---- what is refused
+abbrev pub Lacks : (text n words out used : ℕ) → Type 0
+Lacks text n words out used = (text < n) ⊎ (((n ≤ text) × (words < frame_words)) ⊎ ((n ≤ text) × (frame_words ≤ words) × (out < used)))
 
-and_right : (p : Bool) {q : Bool} → q ≡ false → (p && q) ≡ false
-and_right true e = e
-and_right false e = refl
+feeds_not : (text n words out used : ℕ) → Lacks text n words out used → feeds text n words out used ≡ false
+feeds_not text n words out used (inl h) = rw (lt-leb n text h)
+feeds_not text n words out used (inr (inl h)) = rw (le-leb n text h.0, lt-leb frame_words words h.1)
+feeds_not text n words out used (inr (inr h)) = rw (le-leb n text h.0, le-leb frame_words words h.1, lt-leb used out h.2)
 
-feeds_not : (text n words out used : ℕ) → ((text < n) ⊎ (words < frame_words)) ⊎ (out < used) → feeds text n words out used ≡ false
-feeds_not text n words out used (inl (inl h)) = rw (lt-leb n text h)
-feeds_not text n words out used (inl (inr h)) = and_right (leb n text) (rw (lt-leb frame_words words h))
-feeds_not text n words out used (inr h) = and_right (leb n text) (and_right (leb frame_words words) (lt-leb used out h))
-
-pub fed_refused : (text : List ℕ) (n : ℕ) (words out : List ℕ) (used : ℕ) {r : Fed} → ((length text < n) ⊎ (length words < frame_words)) ⊎ (length out < used) → r ≡ record { refusal = 10; from = 0; at = 0; used = 0 } → Feeds text n words out used r words out
+pub fed_refused : (text : List ℕ) (n : ℕ) (words out : List ℕ) (used : ℕ) → Lacks (length text) n (length words) (length out) used → Feeds text n words out used (Err NoFit) words out
 unfolding fed_of fed_words fed_out
-fed_refused text n words out used h a =
+fed_refused text n words out used h =
     let z : feeds (length text) n (length words) (length out) used ≡ false = feeds_not (length text) n (length words) (length out) used h in
-    record {
-      answer = a ∙ rw z;
-      room = omega (arith, ap (λ (x : Fed). x.used) a);
-      words_left = rw z;
-      out_left = rw z;
-    }
+    record { answer = rw z; room = tt; words_left = rw z; out_left = rw z }

@@ -1,13 +1,13 @@
 -- RULES 14.3. What one call makes of the line so far and the bytes behind it, if its output may be too short for all
 -- answers. Assumes nothing: these are definitions.
-use Rattle.std.specs.Prelude.{Bool, ◌&&◌, List, [], ◌∷◌, ◌++◌, ◌≡◌, ℕ, ◌+◌, ◌-◌, ◌≤◌, eqb, leb, ltb, length, take, drop}
-use Rattle.limits.specs.Refusals.{no_fit}
+use Rattle.std.specs.Prelude.{Bool, ◌&&◌, Result, Ok, Err, IfOk, List, [], ◌∷◌, ◌++◌, ◌≡◌, ℕ, ◌+◌, ◌-◌, ◌≤◌, eqb, leb, ltb, length, take, drop}
+use Rattle.limits.specs.declared.refusals.Refusal.{Refusal}
+use Rattle.limits.specs.declared.refusals.Refusal.TheVariants.{NoFit}
 use Rattle.loops.specs.Pick.{either}
 use Rattle.texts.specs.Put.{written}
 pub use Rattle.frame.specs.Bounds.{kept_bytes}
 use Rattle.frame.specs.Bounds.{frame_words, ended_bytes}
 use Rattle.frame.specs.Listing.{words_in}
-use Rattle.frame.specs.declared.listing.Listed.{Listed}
 use Rattle.lines.specs.Input.{line_end, last_of, ended_of, listed_lines}
 use Rattle.lines.specs.declared.feed.Fed.{Fed}
 
@@ -57,17 +57,17 @@ abbrev pub feed_of : List ℕ → ℕ → ℕ → Feed
 feed_of text n room = feed_by room (take n text) (drop n text)
 
 -- Where the line so far begins and where it ends, counted from the text's end: it stands before what was not read.
-unfoldable pub fed_of : List ℕ → ℕ → ℕ → ℕ → ℕ → Fed
-fed_of text n words out used =
+unfoldable pub fed_to : List ℕ → ℕ → ℕ → ℕ → Fed
+fed_to text n out used =
     let f = feed_of text n (out - used) in
-    either (feeds (length text) n words out used)
-    (record {
-      refusal = 0;
+    record {
       from = length text - length f.rest - length f.line;
       at = length text - length f.rest;
       used = used + length (listed_lines f.done);
-    })
-    (record { refusal = no_fit; from = 0; at = 0; used = 0 })
+    }
+
+unfoldable pub fed_of : List ℕ → ℕ → ℕ → ℕ → ℕ → Result Fed Refusal
+fed_of text n words out used = either (feeds (length text) n words out used) (Ok (fed_to text n out used)) (Err NoFit)
 
 unfoldable pub fed_words : List ℕ → ℕ → List ℕ → ℕ → ℕ → List ℕ
 fed_words text n words out used =
@@ -82,9 +82,9 @@ fed_out text n words out used =
     out
 
 -- What the call hands back and what it leaves.
-pub record Feeds (text : List ℕ) (n : ℕ) (words out : List ℕ) (used : ℕ) (r : Fed) (words' out' : List ℕ) : Type 0 where
+pub record Feeds (text : List ℕ) (n : ℕ) (words out : List ℕ) (used : ℕ) (r : Result Fed Refusal) (words' out' : List ℕ) : Type 0 where
   pub answer : r ≡ fed_of text n (length words) (length out) used
-  pub room : r.used ≤ length out
+  pub room : IfOk r (λ fed. fed.used ≤ length out)
   pub words_left : words' ≡ fed_words text n words (length out) used
   pub out_left : out' ≡ fed_out text n (length words) out used
 
@@ -104,11 +104,9 @@ kept_in text from = written text 0 (kept_from text from)
 abbrev pub ends : ℕ → ℕ → Bool
 ends words out = leb frame_words words && leb ended_bytes out
 
-unfoldable pub end_of : List ℕ → ℕ → ℕ → Listed
-end_of line words out =
-    either (ends words out)
-    (record { refusal = 0; len = length (listed_lines (last_of line)) })
-    (record { refusal = no_fit; len = 0 })
+-- how many bytes the answer has
+unfoldable pub end_of : List ℕ → ℕ → ℕ → Result ℕ Refusal
+end_of line words out = either (ends words out) (Ok (length (listed_lines (last_of line)))) (Err NoFit)
 
 unfoldable pub end_words : List ℕ → List ℕ → ℕ → List ℕ
 end_words line words out = either (ends (length words) out) (words_behind (last_of line) words) words

@@ -1,11 +1,11 @@
 -- RULES 14.2 and 14.3. However an input is cut into reads, and wherever the output was full, the listing is the same.
 -- Assumes nothing: it is proved in proofs/Cutting.antt and proofs/Standing.antt.
-use Rattle.std.specs.Prelude.{List, [], ◌∷◌, ◌++◌, ◌≡◌, ℕ, ◌-◌, ◌≤◌, ◌<◌, length, take, drop}
+use Rattle.std.specs.Prelude.{Ok, List, [], ◌∷◌, ◌++◌, ◌≡◌, ℕ, ◌-◌, ◌≤◌, ◌<◌, length, take, drop}
 use Rattle.frame.specs.Bounds.{frame_words, ended_bytes}
 use Rattle.frame.specs.Listing.{listing_of, refused_text}
 use Rattle.lines.specs.declared.feed.Fed.{Fed}
 use Rattle.lines.specs.Input.{last_of, listed_lines, input_listing}
-use Rattle.lines.specs.Feeding.{kept_bytes, feed_by, feed_of, fed_of, kept_of}
+use Rattle.lines.specs.Feeding.{kept_bytes, feed_by, feed_of, fed_to, fed_of, kept_of}
 
 -- What a program writes for the reads that are still to come, if it has a line so far: it calls with any room for the
 -- output, writes what it got, and calls again for the bytes that were not read; once there are none it keeps what is
@@ -40,4 +40,4 @@ pub record CallsOn (text : List ℕ) (n room : ℕ) (r : Fed) : Type 0 where
 abbrev pub CallAgain : Type 0
 CallAgain =
     (text : List ℕ) (n words out used : ℕ) → n ≤ length text → frame_words ≤ words → used ≤ out
-    → CallsOn text n (out - used) (fed_of text n words out used)
+    → (fed_of text n words out used ≡ Ok (fed_to text n out used)) × CallsOn text n (out - used) (fed_to text n out used)

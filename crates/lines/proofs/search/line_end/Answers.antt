@@ -1,15 +1,17 @@
+use mathlib.Core.Path.{◌≡◌, sym, ap, ◌∙◌}
+use Rattle.std.specs.List.{position}
+use Rattle.std.proofs.lemmas.List.{take_rest}
+use Rattle.lines.specs.Feeding.{ends_line}
+use Rattle.std.specs.Prelude.{None}
 use native.Mathlib.Omega.{arith}
-use Rattle.lines.proofs.Ends.{unbroken_more, found, none_found}
+use Rattle.std.proofs.lemmas.Grind.{common_steps}
+use Rattle.lines.proofs.Ends.{found, none_found}
 use Rattle.lines.proofs.search.line_end.Goals as goal
 
-pub loop-i-init : goal.loop-i-init
-loop-i-init c = c.pass_blocks-i.ensures
-
-pub returns-then-text-i-eq-END : goal.returns-then-text-i-eq-END
-returns-then-text-i-eq-END c = found c.args.text.now c.args.at c.loop-i.i c.loop-i.invariant.0 c.loop-i-test.true c.loop-i.invariant.2 c.if-text-i-eq-END.true
-
-pub loop-i-preserved : goal.loop-i-preserved
-loop-i-preserved c = (omega arith, omega arith, unbroken_more c.args.text.now c.args.at c.loop-i.i c.loop-i.invariant.2 c.if-text-i-eq-END.false)
+pub returns-in_err-ahead : goal.returns-in_err-ahead
+returns-in_err-ahead c =
+    let n : c.from_residual.result ≡ None = grind (arith, common_steps) in
+    rw n (none_found c.args.text.now c.args.at c.requires (ap (position ends_line) (sym (take_rest c.args.text.now c.args.at)) ∙ sym c.first_end.ensures ∙ c.in_err-ahead.was))
 
 pub returns : goal.returns
-returns c = none_found c.args.text.now c.args.at c.loop-i.i c.loop-i.invariant.0 c.loop-i.invariant.1 c.loop-i-test.false c.loop-i.invariant.2
+returns c = found c.args.text.now c.args.at c.requires c.in_ok-ahead.ahead (ap (position ends_line) (sym (take_rest c.args.text.now c.args.at)) ∙ sym c.first_end.ensures ∙ c.in_ok-ahead.was)
