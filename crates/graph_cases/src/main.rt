@@ -11,7 +11,7 @@ use graph::network::{Built, NeighborList, NetworkGraph};
 use std::io;
 
 // A graph, or the number of the refusal.
-fn accepted(built: Built) -> std::result::Result<NetworkGraph, u64> {
+fn accepted(built: Built) -> Result<NetworkGraph, u64> {
     match built.refusal {
         0 => Ok(built.graph),
         refusal => Err(refusal),
@@ -19,7 +19,7 @@ fn accepted(built: Built) -> std::result::Result<NetworkGraph, u64> {
 }
 
 // A graph, and who hears i in it.
-fn heard(i: u64, rows: &[u64]) -> std::result::Result<(NetworkGraph, NeighborList), u64> {
+fn heard(i: u64, rows: &[u64]) -> Result<(NetworkGraph, NeighborList), u64> {
     let graph = accepted(NetworkGraph::from_rows(rows))?;
     let list = graph.neighbors(i as usize);
     match list.refusal {
@@ -29,7 +29,7 @@ fn heard(i: u64, rows: &[u64]) -> std::result::Result<(NetworkGraph, NeighborLis
 }
 
 // Whether j hears i, and whether what i sends can come to j.
-fn linked(i: u64, j: u64, rows: &[u64]) -> std::result::Result<(bool, bool), u64> {
+fn linked(i: u64, j: u64, rows: &[u64]) -> Result<(bool, bool), u64> {
     let graph = accepted(NetworkGraph::from_rows(rows))?;
     let link = graph.has_link(i as usize, j as usize);
     let reach = graph.reaches(i as usize, j as usize);

@@ -26,10 +26,23 @@ use std::io;
 // The most bytes of a text or a buffer.
 const MOST: usize = 1024;
 
-const DATA: usize = 32;
-
 // The numbers of a pipeline packet. A capture packet has fewer.
 const NUMBERS: usize = 12;
+
+// What an entry for C told, or the number of its refusal.
+fn accepted<T: Drop>(refusal: u64, told: T) -> Result<T, u64> {
+    match refusal {
+        0 => Ok(told),
+        _ => Err(refusal),
+    }
+}
+
+// What a text was read to.
+#[derive(Clone, Copy)]
+struct Packet {
+    numbers: [u64; NUMBERS],
+    data: [u8; limits::DATA],
+}
 
 #[derive(Clone, Copy)]
 enum Family {
@@ -45,25 +58,26 @@ impl Family {
         }
     }
 
-    fn read(self, text: &[u8], len: u64, numbers: &mut [u64], data: &mut [u8]) -> u64 {
-        match self {
-            Family::Capture => console::ce_packet_read(text, len, numbers, data),
-            Family::Pipeline => console::pipeline_packet_read(text, len, numbers, data),
-        }
+    fn read(self, text: &[u8], len: u64) -> Result<Packet, u64> {
+        let mut numbers = [0; NUMBERS];
+        let mut data = [0; limits::DATA];
+        let refusal = match self {
+            Family::Capture => console::ce_packet_read(text, len, &mut numbers, &mut data),
+            Family::Pipeline => console::pipeline_packet_read(text, len, &mut numbers, &mut data),
+        };
+        accepted(refusal, Packet { numbers, data })
     }
 
-    fn write(
-        self,
-        numbers: &[u64],
-        data: &[u8],
-        buf: &mut [u8],
-        place: u64,
-        next: &mut u64,
-    ) -> u64 {
-        match self {
-            Family::Capture => console::ce_packet_write(numbers, data, buf, place, next),
-            Family::Pipeline => console::pipeline_packet_write(numbers, data, buf, place, next),
-        }
+    // The place behind what was written.
+    fn write(self, numbers: &[u64], data: &[u8], buf: &mut [u8], place: u64) -> Result<u64, u64> {
+        let mut next = 0;
+        let refusal = match self {
+            Family::Capture => console::ce_packet_write(numbers, data, buf, place, &mut next),
+            Family::Pipeline => {
+                console::pipeline_packet_write(numbers, data, buf, place, &mut next)
+            }
+        };
+        accepted(refusal, next)
     }
 }
 
@@ -115,6 +129,39 @@ impl Voter {
             position: position.parse::<u64>()?,
         })
     }
+
+    // Whether there was news, and how long the local text is afterwards. Before, the two are as long as `lens` says.
+    fn merge(self, local: &mut [u8], received: &[u8], lens: (u64, u64)) -> Result<(u64, u64), u64> {
+        let (mut len, received_len) = lens;
+        let mut news = 0;
+        let refusal = desk::ce_packet_merge(
+            local,
+            &mut len,
+            received,
+            received_len,
+            self.n,
+            self.position,
+            self.abort,
+            self.seed,
+            &mut news,
+        );
+        accepted(refusal, (news, len))
+    }
+
+    // The place behind the proposal's text.
+    fn propose(self, term: u64, buf: &mut [u8]) -> Result<u64, u64> {
+        let mut next = 0;
+        let refusal = desk::ce_packet_propose(
+            term,
+            self.n,
+            self.position,
+            self.abort,
+            self.seed,
+            buf,
+            &mut next,
+        );
+        accepted(refusal, next)
+    }
 }
 
 // ---- answers
@@ -123,10 +170,10 @@ fn buffer(alloc: Global, size: u64) -> Result<Vec<u8>, AllocError> {
     vec![in alloc; b'.'; MOST.min(size as usize)]
 }
 
-fn say_wrote(rt: &impl Print, refusal: u64, next: u64, buf: &[u8]) -> io::Result<()> {
-    match refusal {
-        0 => print!(rt; "{next} ")?,
-        _ => print!(rt; "refusal {refusal} ")?,
+fn say_wrote(rt: &impl Print, wrote: Result<u64, u64>, buf: &[u8]) -> io::Result<()> {
+    match wrote {
+        Ok(next) => print!(rt; "{next} ")?,
+        Err(refusal) => print!(rt; "refusal {refusal} ")?,
     }
     rt.write_all(buf)?;
     println!(rt)
@@ -141,19 +188,18 @@ fn write(
     place: u64,
 ) -> io::Result<()> {
     let mut buf = buffer(rt.alloc(), size)?;
-    let mut next = 0;
-    let refusal = family.write(numbers, data, &mut buf, place, &mut next);
-    say_wrote(rt, refusal, next, &buf)
+    let wrote = family.write(numbers, data, &mut buf, place);
+    say_wrote(rt, wrote, &buf)
 }
 
 fn read(rt: &(impl Print + AllocGlobal), family: Family, text: &[u8], len: u64) -> io::Result<()> {
-    let mut numbers = [0; NUMBERS];
-    let mut data = [0; DATA];
-    let refusal = family.read(text, len, &mut numbers, &mut data);
-    if refusal != 0 {
-        return println!(rt; "refusal {refusal}");
+    match family.read(text, len) {
+        Ok(packet) => {
+            let size = len.wrapping_add(2);
+            write(rt, family, &packet.numbers, &packet.data, size, 1)
+        }
+        Err(refusal) => println!(rt; "refusal {refusal}"),
     }
-    write(rt, family, &numbers, &data, len.wrapping_add(2), 1)
 }
 
 // Each text lies in a buffer of the greatest size.
@@ -163,46 +209,25 @@ fn merge(
     mut received: Vec<u8>,
     voter: Voter,
 ) -> Result<()> {
-    let received_len = received.len() as u64;
-    let mut len = local.len() as u64;
-    let mut news = 0;
+    let lens = (local.len() as u64, received.len() as u64);
     local.resize(MOST, b'.')?;
     received.resize(MOST, b'.')?;
-    let refusal = desk::ce_packet_merge(
-        &mut local,
-        &mut len,
-        &received,
-        received_len,
-        voter.n,
-        voter.position,
-        voter.abort,
-        voter.seed,
-        &mut news,
-    );
-    if refusal != 0 {
-        println!(rt; "refusal {refusal}")?;
-        return Ok(());
+    match voter.merge(&mut local, &received, lens) {
+        Ok((news, len)) => {
+            let end = local.len().min(len as usize);
+            print!(rt; "{news} ")?;
+            rt.write_all(&local[..end])?;
+            println!(rt)?
+        }
+        Err(refusal) => println!(rt; "refusal {refusal}")?,
     }
-    let end = local.len().min(len as usize);
-    print!(rt; "{news} ")?;
-    rt.write_all(&local[..end])?;
-    println!(rt)?;
     Ok(())
 }
 
 fn propose(rt: &(impl Print + AllocGlobal), size: u64, term: u64, voter: Voter) -> io::Result<()> {
     let mut buf = buffer(rt.alloc(), size)?;
-    let mut next = 0;
-    let refusal = desk::ce_packet_propose(
-        term,
-        voter.n,
-        voter.position,
-        voter.abort,
-        voter.seed,
-        &mut buf,
-        &mut next,
-    );
-    say_wrote(rt, refusal, next, &buf)
+    let wrote = voter.propose(term, &mut buf);
+    say_wrote(rt, wrote, &buf)
 }
 
 // ---- a question

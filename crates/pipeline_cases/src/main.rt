@@ -147,6 +147,7 @@ impl Digest {
     }
 }
 
+// No From: the entry's type is of another crate.
 fn entry_number(entry: &LogEntry) -> u64 {
     if entry.committed {
         entry.tx as u64 + 256
