@@ -7,36 +7,32 @@
 #![tactic(auto)]
 
 use anyhow::{Result, bail};
-use graph::network::{Built, NeighborList, NetworkGraph};
+use graph::network::{NeighborList, NetworkGraph};
+use limits::refusals::Refusal;
 use std::io;
 
-// A graph, or the number of the refusal.
-fn accepted(built: Built) -> Result<NetworkGraph, u64> {
-    match built.refusal {
-        0 => Ok(built.graph),
-        refusal => Err(refusal),
-    }
+// The diameter, and who hears i.
+fn heard(i: u64, rows: &[u64]) -> Result<(usize, NeighborList), Refusal> {
+    let graph = NetworkGraph::from_rows(rows)?;
+    let list = graph.neighbors(i as usize)?;
+    Ok((graph.diameter()?, list))
 }
 
-// A graph, and who hears i in it.
-fn heard(i: u64, rows: &[u64]) -> Result<(NetworkGraph, NeighborList), u64> {
-    let graph = accepted(NetworkGraph::from_rows(rows))?;
-    let list = graph.neighbors(i as usize);
-    match list.refusal {
-        0 => Ok((graph, list)),
-        refusal => Err(refusal),
-    }
+// A topology, and its diameter.
+fn built(topology: u64, n: u64, argument: u64) -> Result<(NetworkGraph, usize), Refusal> {
+    let graph = NetworkGraph::from_topology(topology, n as usize, argument as usize)?;
+    Ok((graph, graph.diameter()?))
 }
 
 // Whether j hears i, and whether what i sends can come to j.
-fn linked(i: u64, j: u64, rows: &[u64]) -> Result<(bool, bool), u64> {
-    let graph = accepted(NetworkGraph::from_rows(rows))?;
-    let link = graph.has_link(i as usize, j as usize);
-    let reach = graph.reaches(i as usize, j as usize);
-    match link.refusal {
-        0 => Ok((link.holds, reach.holds)),
-        refusal => Err(refusal),
-    }
+fn linked(i: u64, j: u64, rows: &[u64]) -> Result<(bool, bool), Refusal> {
+    let graph = NetworkGraph::from_rows(rows)?;
+    let link = graph.has_link(i as usize, j as usize)?;
+    Ok((link, graph.reaches(i as usize, j as usize)?))
+}
+
+fn say_refusal(rt: &impl Print, refusal: Refusal) -> io::Result<()> {
+    println!(rt; "{}", u64::from(refusal))
 }
 
 // The first so many numbers of a list.
@@ -49,29 +45,28 @@ fn say_first(rt: &impl Print, list: &[u64], count: usize) -> io::Result<()> {
 
 fn ask_graph(rt: &impl Print, i: u64, rows: &[u64]) -> io::Result<()> {
     match heard(i, rows) {
-        Ok((graph, list)) => {
-            print!(rt; "0 {} {}", graph.diameter().links, list.count)?;
+        Ok((diameter, list)) => {
+            print!(rt; "0 {diameter} {}", list.count)?;
             say_first(rt, &list.at, list.count)
         }
-        Err(refusal) => println!(rt; "{refusal}"),
+        Err(refusal) => say_refusal(rt, refusal),
     }
 }
 
 fn ask_topology(rt: &impl Print, topology: u64, n: u64, argument: u64) -> io::Result<()> {
-    let built = NetworkGraph::from_topology(topology, n as usize, argument as usize);
-    match accepted(built) {
-        Ok(graph) => {
-            print!(rt; "0 {}", graph.diameter().links)?;
+    match built(topology, n, argument) {
+        Ok((graph, diameter)) => {
+            print!(rt; "0 {diameter}")?;
             say_first(rt, &graph.adj, graph.n)
         }
-        Err(refusal) => println!(rt; "{refusal}"),
+        Err(refusal) => say_refusal(rt, refusal),
     }
 }
 
 fn ask_pair(rt: &impl Print, i: u64, j: u64, rows: &[u64]) -> io::Result<()> {
     match linked(i, j, rows) {
         Ok((link, reach)) => println!(rt; "0 {} {}", link as u64, reach as u64),
-        Err(refusal) => println!(rt; "{refusal}"),
+        Err(refusal) => say_refusal(rt, refusal),
     }
 }
 
