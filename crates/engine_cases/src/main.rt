@@ -75,9 +75,11 @@ impl Room {
             seed,
             interval,
             words: case_lines::words_from(alloc, first, step, count)?,
-            links: NetworkGraph::from_topology(topology, n, argument as usize)
-                .graph
-                .adj,
+            // A topology that is refused has no links.
+            links: match NetworkGraph::from_topology(topology, n, argument as usize) {
+                Ok(graph) => graph.adj,
+                Err(_) => [0; limits::POSITIONS],
+            },
             state: vec![in alloc; 0; STATE]?,
         })
     }

@@ -272,12 +272,13 @@ fn answer(rt: &(impl Print + AllocGlobal), question: &[u64]) -> Result<()> {
     else {
         bail!("no question: {question:?}");
     };
-    let built = NetworkGraph::from_topology(topology, n as usize, argument as usize);
-    if built.refusal != 0 {
-        println!(rt; "{}", built.refusal)?;
-        return Ok(());
-    }
-    let graph = built.graph;
+    let graph = match NetworkGraph::from_topology(topology, n as usize, argument as usize) {
+        Ok(graph) => graph,
+        Err(refusal) => {
+            println!(rt; "{}", u64::from(refusal))?;
+            return Ok(());
+        }
+    };
     let asked = Asked {
         graph,
         transactions,

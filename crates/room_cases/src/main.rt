@@ -44,8 +44,10 @@ const FLOOD_COVERAGE: u64 = 12;
 
 // A row for each position, also for those that are too many for a graph.
 fn links_of(alloc: Global, topology: u64, n: u64, argument: u64) -> Result<Vec<u64>, AllocError> {
-    let built = NetworkGraph::from_topology(topology, n as usize, argument as usize);
-    let rows = built.graph.adj;
+    let rows = match NetworkGraph::from_topology(topology, n as usize, argument as usize) {
+        Ok(graph) => graph.adj,
+        Err(_) => [0; 64],
+    };
     rows.iter()
         .copied()
         .chain(iter::repeat(0))
