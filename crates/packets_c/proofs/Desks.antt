@@ -8,7 +8,7 @@ use Rattle.loops.specs.Pick.{either}
 use Rattle.texts.specs.Put.{written}
 use Rattle.packets.specs.Packets.{ce_text, ce_within}
 use Rattle.packets.specs.Writing.{wrote_of, left_of}
-use Rattle.packets_c.specs.Desk.{refusal_of, Desk, rewriting, rewritten, answered, desk_after, desk_of, RefusedLeaves}
+use Rattle.packets_c.specs.Desk.{refusal_of, Desk, rewriting, rewritten, answered, desk_after, met, desk_of, RefusedLeaves}
 use Rattle.packets.specs.declared.CeTwoPcPacket.{CeTwoPcPacket}
 use Rattle.merges.specs.declared.merging.MergeResult.{MergeResult}
 use Rattle.merges.specs.declared.merging.MergeResult.TheVariants.{Redundant, NewInfo}
@@ -41,4 +41,4 @@ after_leaves local len was m (Err k) = λ h. (refl, refl, refl)
 pub refused_leaves : RefusedLeaves
 unfolding desk_of
 refused_leaves s v local len received rlen was =
-    after_leaves local len was _ (refusal_of s.n v (length local) len (length received) rlen)
+    after_leaves local len was (met s v local len received rlen) (refusal_of s.n v (length local) len (length received) rlen)

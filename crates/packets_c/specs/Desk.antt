@@ -59,12 +59,15 @@ abbrev pub desk_after : List ℕ → ℕ → ℕ → Merged → Result ⊤ Refus
 desk_after local len was m (Ok x) = answer local len was m
 desk_after local len was m (Err k) = record { refusal = number_of k; text = local; len = len; news = was }
 
+-- what the merge makes of two texts
+abbrev pub met : Voting → ℕ → List ℕ → ℕ → List ℕ → ℕ → Merged
+met s v local len received rlen = merge_of (no_of s) s.n v (payload_of local len) (payload_of received rlen)
+
 -- the call: position v of s.n positions merges the text in `received` into that in `local`; `was` is the news number
 -- before
 unfoldable pub desk_of : Voting → ℕ → List ℕ → ℕ → List ℕ → ℕ → ℕ → Desk
 desk_of s v local len received rlen was =
-    desk_after local len was (merge_of (no_of s) s.n v (payload_of local len) (payload_of received rlen))
-    (refusal_of s.n v (length local) len (length received) rlen)
+    desk_after local len was (met s v local len received rlen) (refusal_of s.n v (length local) len (length received) rlen)
 
 -- ---- the proposal's text
 
