@@ -103,10 +103,10 @@ fn piggyback_numbered(there: u64, t: u64, outcome: u64) -> Piggyback
     if there == 0 {
         return Piggyback::Absent;
     }
-    let o = numbers::is_yes(outcome);
-    Piggyback::Present(t as usize, o)
+    Piggyback::Present(t as usize, outcome != 0)
 }
 
+#[tactic(auto, unfolding(crate::specs::Console::packet_at))]
 fn packet_of(xs: &[u64], at: usize) -> RoundPacket
     requires { at ≤ 10000 }
     ensures { result ≡ packet_at xs.now at }
@@ -118,9 +118,9 @@ fn packet_of(xs: &[u64], at: usize) -> RoundPacket
     RoundPacket {
         tx: numbers::number(xs, at) as usize,
         bits: numbers::number(xs, at + 1),
-        abort: numbers::is_yes(numbers::number(xs, at + 2)),
+        abort: numbers::number(xs, at + 2) != 0,
         nack: numbers::number(xs, at + 3) as usize,
-        fresh: numbers::is_yes(numbers::number(xs, at + 4)),
+        fresh: numbers::number(xs, at + 4) != 0,
         sender: numbers::number(xs, at + 5) as usize,
         piggyback,
     }
@@ -159,6 +159,7 @@ fn records_of(xs: &[u64]) -> Records
     Records { log, ends }
 }
 
+#[tactic(auto, unfolding(crate::specs::Console::part_at))]
 fn part_of(xs: &[u64]) -> PipelinePart
     ensures { result ≡ part_at xs.now }
 {
@@ -172,7 +173,7 @@ fn part_of(xs: &[u64]) -> PipelinePart
     let payloads = packets_of(xs);
     PipelinePart {
         round: numbers::number(xs, 2),
-        stop: numbers::is_yes(numbers::number(xs, 4)),
+        stop: numbers::number(xs, 4) != 0,
         states,
         txs,
         piggyback,
@@ -410,7 +411,7 @@ pub extern "C" fn pipeline_flood_length(
 ) -> u64
     ensures { result ≡ flood_length (truth given) slots diameter repeats }
 {
-    flood::flood::flood_length(numbers::is_yes(given), slots, diameter, repeats)
+    flood::flood::flood_length(given != 0, slots, diameter, repeats)
 }
 
 fn conf_of(
