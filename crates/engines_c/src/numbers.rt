@@ -2,7 +2,7 @@
 // past the end reads as 0, and nothing is put there, so that no call has to be refused for the length of its list.
 ghost use Rattle.std.specs.Prelude.{◌≡◌, ◌+◌, ◌≤◌, get_or, set};
 ghost use Rattle.std.proofs.lemmas.List.Edits.{sets};
-ghost use Rattle.engines_c.specs.Numbers.{cell, truth, node_at, nodes_at, node_numbers, put_nodes, metrics_at, metrics_numbers, network_at, put_network};
+ghost use Rattle.engines_c.specs.Numbers.{cell, node_at, nodes_at, node_numbers, put_nodes, metrics_at, metrics_numbers, network_at, put_network};
 
 use engines::metrics::MetricsCollector;
 use engines::network::Network;
@@ -42,13 +42,6 @@ pub fn put_run(xs: &mut [u64], at: usize, k: usize, values: &[u64])
 }
 
 // ---- a node: 8 numbers
-
-// Every number but 0 is a yes.
-pub fn is_yes(n: u64) -> bool
-    ensures { result ≡ truth n }
-{
-    n != 0
-}
 
 // The node whose numbers start k places behind at.
 #[tactic(auto, unfolding(crate::specs::Numbers::node_at))]

@@ -85,7 +85,7 @@ fn piggyback_numbered(there: u64, t: u64, outcome: u64) -> Option<Outcome>
     }
     Some(Outcome {
         tx: t as usize,
-        committed: numbers::is_yes(outcome),
+        committed: outcome != 0,
     })
 }
 
@@ -100,9 +100,9 @@ fn packet_of(xs: &[u64], at: usize) -> RoundPacket
     RoundPacket {
         tx: numbers::number(xs, at) as usize,
         bits: numbers::number(xs, at + 1),
-        abort: numbers::is_yes(numbers::number(xs, at + 2)),
+        abort: numbers::number(xs, at + 2) != 0,
         nack: numbers::number(xs, at + 3) as usize,
-        fresh: numbers::is_yes(numbers::number(xs, at + 4)),
+        fresh: numbers::number(xs, at + 4) != 0,
         sender: numbers::number(xs, at + 5) as usize,
         piggyback: piggyback_numbered(there, t, outcome),
     }
@@ -144,7 +144,7 @@ fn part_of(xs: &[u64]) -> PipelinePart
     let outcome = numbers::number(xs, 17);
     PipelinePart {
         round: numbers::number(xs, 2),
-        stop: numbers::is_yes(numbers::number(xs, 4)),
+        stop: numbers::number(xs, 4) != 0,
         states: states_of(xs),
         txs: txs_of(xs),
         piggyback: piggyback_numbered(there, t, outcome),
@@ -340,7 +340,7 @@ pub extern "C" fn pipeline_flood_length(
 ) -> u64
     ensures { result ≡ flood_length (truth given) slots diameter repeats }
 {
-    flood::flood::flood_length(numbers::is_yes(given), slots, diameter, repeats)
+    flood::flood::flood_length(given != 0, slots, diameter, repeats)
 }
 
 #[tactic(auto, unfolding(crate::specs::Console::conf_by))]

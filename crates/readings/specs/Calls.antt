@@ -1,10 +1,9 @@
 -- RULES 12. The readings of a room as one list: one for each function of src/readings.rt that is open to others, under
 -- its name and with its arguments, and its answer, by the rule that the function's contract cites. A reading changes
 -- no room. Assumes nothing: these are definitions.
-use Rattle.std.specs.Prelude.{ℕ, List}
+use Rattle.std.specs.Prelude.{ℕ, List, Option, Float}
 use Rattle.engines.specs.Metrics.{link_pdr_of, flood_coverage_of}
 use Rattle.engines.specs.declared.metrics.MetricsCollector.{MetricsCollector}
-use Rattle.engines.specs.declared.metrics.Ratio.{Ratio}
 use Rattle.engines.specs.declared.settings.Settings.{Settings}
 use Rattle.room.specs.declared.room.Room.{Room}
 use Rattle.room.specs.declared.room.RoomKind.{RoomKind}
@@ -33,7 +32,7 @@ pub data Answer : Type 0 where
   the_settings : Settings → Answer
   a_number : ℕ → Answer
   the_metrics : MetricsCollector → Answer
-  a_ratio : Ratio → Answer
+  a_ratio : Option Float → Answer
   maybe_number : NumberReading → Answer
   an_outcome : OutcomeReading → Answer
   a_node : NodeReading → Answer

@@ -8,7 +8,7 @@ ghost use Rattle.engines.specs.Metrics.{link_pdr_of, flood_coverage_of};
 ghost use Rattle.engines.specs.Network.{or_else};
 ghost use Rattle.readings.specs.Readings.{capture_only, pipeline_only, number_if, term_of, round_of, stopped_of, initiator_now, outcome_read, node_of, of_pipeline, state_at, log_len_of, entry_of, log_entry_of, pending_in, pending_of, record_in, record_of, text_if, ce_answer, ce_left, pipe_answer_of, pipe_left, text_of, text_left};
 
-use engines::metrics::{MetricsCollector, Ratio};
+use engines::metrics::MetricsCollector;
 use engines::node::Node;
 use engines::settings::Settings;
 use graph::sets;
@@ -130,7 +130,7 @@ pub fn metrics(r: Room) -> MetricsCollector
     w.metrics
 }
 
-pub fn link_pdr(r: Room) -> Ratio
+pub fn link_pdr(r: Room) -> Option<f64>
     ensures { result ≡ link_pdr_of r.network.metrics }
 {
     let w = r.network;
@@ -138,7 +138,7 @@ pub fn link_pdr(r: Room) -> Ratio
     m.link_pdr()
 }
 
-pub fn flood_coverage(r: Room) -> Ratio
+pub fn flood_coverage(r: Room) -> Option<f64>
     ensures { result ≡ flood_coverage_of r.network.metrics }
 {
     let w = r.network;

@@ -16,8 +16,7 @@ use Rattle.packets.specs.declared.Data.{Data}
 use Rattle.pipeline.specs.Pipeline.{data_of}
 use Rattle.room.specs.declared.room.Room.{Room}
 use Rattle.engines.specs.Metrics.{link_pdr_of, flood_coverage_of}
-use Rattle.engines.specs.declared.metrics.Ratio.{Ratio}
-use Rattle.engines.specs.declared.metrics.Ratio.TheVariants.{None, Some}
+use Rattle.std.specs.Prelude.{Option as Maybe, None, Some}
 use Rattle.readings.specs.Calls.{
   Reading,
   kind,
@@ -95,7 +94,7 @@ pub record Few (s : Said) : Type 0 where
 few : {k : ℕ} {xs : List ℕ} → length xs ≤ 39 → Few (plain k xs)
 few h = record { numbers = h; floats = omega arith }
 
-few_ratio : (x : Ratio) → Few (said (a_ratio x))
+few_ratio : (x : Maybe Float) → Few (said (a_ratio x))
 unfolding said
 few_ratio None = record { numbers = omega arith; floats = omega arith }
 few_ratio (Some x) = record { numbers = omega arith; floats = omega arith }

@@ -1,11 +1,9 @@
 -- RULES 12 and RULES 17: what a reading answers as numbers and floats, for an entry that can
 -- be lent nothing else; each enum has its number here. Assumes nothing: these are definitions.
-use Rattle.std.specs.Prelude.{ℕ, List, [], ◌∷◌, Float}
+use Rattle.std.specs.Prelude.{ℕ, List, [], ◌∷◌, Option, None, Some, Float}
 use mir.Val.{bool_byte}
 use Rattle.merges.specs.declared.merging.ProposalOutcome.{ProposalOutcome}
 use Rattle.merges.specs.declared.merging.ProposalOutcome.TheVariants as outcomes
-use Rattle.engines.specs.declared.metrics.Ratio.{Ratio}
-use Rattle.engines.specs.declared.metrics.Ratio.TheVariants.{None, Some}
 use Rattle.engines_c.specs.Numbers.{node_numbers, metrics_numbers}
 use Rattle.room.specs.declared.room.RoomKind.{RoomKind}
 use Rattle.room.specs.declared.room.RoomKind.TheVariants as kinds
@@ -37,11 +35,11 @@ outcome_number outcomes.Aborted = 2
 outcome_number outcomes.TimedOut = 3
 
 -- 1 if there is a ratio, which is then a float
-abbrev pub ratio_number : Ratio → ℕ
+abbrev pub ratio_number : Option Float → ℕ
 ratio_number None = 0
 ratio_number (Some x) = 1
 
-abbrev pub ratio_floats : Ratio → List Float
+abbrev pub ratio_floats : Option Float → List Float
 ratio_floats None = []
 ratio_floats (Some x) = x ∷ []
 

@@ -6,7 +6,7 @@ ghost use Rattle.engines_c.specs.Numbers.{metrics_numbers};
 ghost use Rattle.readings.specs.Calls.{the_settings, a_ratio, maybe_number, an_outcome, a_node, an_entry, a_pending, a_record};
 ghost use Rattle.room_c.specs.Answers.{kind_number, outcome_number, said, told_in};
 
-use engines::metrics::{MetricsCollector, Ratio};
+use engines::metrics::MetricsCollector;
 use engines::settings::Settings;
 use engines_c::{numbers, payloads};
 use merges::merging::ProposalOutcome;
@@ -160,13 +160,13 @@ pub fn tell_settings(told: &mut [u64], at: usize, floats: &mut [f64], f: usize, 
     put_floats(floats, f, s.loss_rate, s.abort_probability);
 }
 
-pub fn tell_ratio(told: &mut [u64], at: usize, floats: &mut [f64], f: usize, x: Ratio)
+pub fn tell_ratio(told: &mut [u64], at: usize, floats: &mut [f64], f: usize, x: Option<f64>)
     ensures told_after { told.new ≡ sets told.old at (told_in (said (a_ratio x))) }
     ensures floats_after { floats.new ≡ sets floats.old f (said (a_ratio x)).floats }
 {
     match x {
-        Ratio::None => tell(told, at, 0, 0),
-        Ratio::Some(y) => {
+        None => tell(told, at, 0, 0),
+        Some(y) => {
             tell(told, at, 0, 1);
             put_float(floats, f, y);
         }
