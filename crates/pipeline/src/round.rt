@@ -185,7 +185,8 @@ impl RoundStart<'_> {
         hearing.process_all(parts, states, start)
     }
 
-    // Behind the flood: the packet is delivered, whoever takes part processes it, and the room sees how far everybody is.
+    // Behind the flood: the packet is delivered, whoever takes part processes it, and the room sees how far everybody
+    // is.
     fn close(&self, prep: Prepared, f: FloodRun) -> RoundRun
         ensures { result ≡ close_round self.now.words.now self.now.conf self.now.part (initiator_of self.now.conf self.now.part) prep f }
     {
