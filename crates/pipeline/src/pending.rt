@@ -170,23 +170,33 @@ pub fn nack(s: NodeTwoPcState, current: usize) -> usize
     detect_gap(s, current).unwrap_or(0)
 }
 
-// The own vote on a new transaction. One word is drawn even if no unit lies below the probability.
-#[tactic(auto, unfolding(crate::specs::Pending::vote_of))]
-pub fn vote(words: &[u64], p: f64, i: usize, bits: u64, abort: bool, d: Draw) -> Vote
-    ensures { result ≡ vote_of words.now p i bits abort d }
-{
-    let x = words::next(words, d);
-    if words::lost(x.word, p) {
-        return Vote {
-            bits,
-            abort: true,
+// Whoever votes on a new transaction: the words that it draws from, the probability of a no, and its position.
+#[derive(Clone, Copy)]
+pub struct Voter<'a> {
+    pub words: &'a [u64],
+    pub abort_probability: f64,
+    pub position: usize,
+}
+
+impl Voter<'_> {
+    // The own vote. One word is drawn even if no unit lies below the probability.
+    #[tactic(auto, unfolding(crate::specs::Pending::vote_of))]
+    pub fn vote(&self, bits: u64, abort: bool, d: Draw) -> Vote
+        ensures { result ≡ vote_of self.now.words.now self.now.abort_probability self.now.position bits abort d }
+    {
+        let x = words::next(self.words, d);
+        if words::lost(x.word, self.abort_probability) {
+            return Vote {
+                bits,
+                abort: true,
+                draw: x.draw,
+            };
+        }
+        Vote {
+            bits: with(bits, self.position),
+            abort,
             draw: x.draw,
-        };
-    }
-    Vote {
-        bits: with(bits, i),
-        abort,
-        draw: x.draw,
+        }
     }
 }
 

@@ -20,7 +20,7 @@ pub struct PipelineConf {
 
 // What a pipeline room has of its own: the round number, whether it has stopped, what each position knows, the
 // transactions generated, the outcome to be told besides, the records, and the packets held. A position holds one if
-// its mark is in `holding`.
+// its mark is in `holding`; C is given back also the packets that it lent at other places, so they are no Option.
 #[derive(Clone, Copy)]
 pub struct PipelinePart {
     pub round: u64,

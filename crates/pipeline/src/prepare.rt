@@ -6,6 +6,7 @@ ghost use Rattle.engines.specs.Marked.{with_mark};
 ghost use Rattle.pipeline.specs.Pending.{vote_of};
 ghost use Rattle.pipeline.specs.Pipeline.{record_tx, old_tx, new_tx, begin_tx, record_due, record_judged, abort_of, known_votes, round_packet, prepare_round};
 
+use super::pending::Voter;
 use super::process::RoundFacts;
 use super::two_pc_pipeline::{NodeTwoPcState, Outcome, Records, RoundPacket, Txs};
 use super::{logs, pending};
@@ -62,20 +63,12 @@ fn old_tx(txs: Txs, s: NodeTwoPcState, d: Draw) -> Begun
 }
 
 // The next transaction, with the initiator's vote on it.
-fn new_tx(
-    words: &[u64],
-    p: f64,
-    i: usize,
-    facts: RoundFacts,
-    txs: Txs,
-    s: NodeTwoPcState,
-    d: Draw,
-) -> Begun
+fn new_tx(voter: &Voter, facts: RoundFacts, txs: Txs, s: NodeTwoPcState, d: Draw) -> Begun
     requires { txs.counter < 64 }
-    ensures { result ≡ new_tx facts.round facts.slot txs s (vote_of words.now p i 0 false d) }
+    ensures { result ≡ new_tx facts.round facts.slot txs s (vote_of voter.now.words.now voter.now.abort_probability voter.now.position 0 false d) }
 {
     let t = txs.counter;
-    let v = pending::vote(words, p, i, 0, false, d);
+    let v = voter.vote(0, false, d);
     let mut starts = txs.starts;
     starts[t] = facts.slot;
     let mut rounds = txs.rounds;
@@ -95,21 +88,19 @@ fn new_tx(
 
 #[tactic(auto, unfolding(crate::specs::Pipeline::begin_tx, crate::specs::Pipeline::is_fresh))]
 fn begin_tx(
-    words: &[u64],
-    p: f64,
-    i: usize,
+    voter: &Voter,
     facts: RoundFacts,
     num_txs: usize,
     txs: Txs,
     s: NodeTwoPcState,
     d: Draw,
 ) -> Begun
-    ensures { result ≡ begin_tx words.now p i facts.round facts.slot num_txs txs s d }
+    ensures { result ≡ begin_tx voter.now.words.now voter.now.abort_probability voter.now.position facts.round facts.slot num_txs txs s d }
 {
     if txs.counter >= num_txs || txs.counter >= 64 {
         return old_tx(txs, s, d);
     }
-    new_tx(words, p, i, facts, txs, s, d)
+    new_tx(voter, facts, txs, s, d)
 }
 
 #[tactic(auto, unfolding(crate::specs::Pipeline::record_due))]
@@ -195,9 +186,7 @@ fn make_packet(
 // The gap is looked for first, then comes the new transaction, then what is due is judged, then the packet.
 #[tactic(auto, unfolding(crate::specs::Pipeline::prepare_round))]
 pub fn prepare_round(
-    words: &[u64],
-    p: f64,
-    i: usize,
+    voter: &Voter,
     facts: RoundFacts,
     num_txs: usize,
     txs: Txs,
@@ -206,16 +195,16 @@ pub fn prepare_round(
     s: NodeTwoPcState,
     d: Draw,
 ) -> Prepared
-    ensures { result ≡ prepare_round words.now p i facts num_txs txs records piggyback s d }
+    ensures { result ≡ prepare_round voter.now.words.now voter.now.abort_probability voter.now.position facts num_txs txs records piggyback s d }
 {
     let nack = pending::nack(s, txs.counter);
-    let b = begin_tx(words, p, i, facts, num_txs, txs, s, d);
+    let b = begin_tx(voter, facts, num_txs, txs, s, d);
     let own = pending::judge(facts.n, facts.round, &b.txs.rounds, b.state);
     Prepared {
         state: own,
         txs: b.txs,
         records: record_judged(facts, &b.txs.rounds, b.state, records),
-        packet: make_packet(i, b.tx, b.fresh, nack, piggyback, own),
+        packet: make_packet(voter.position, b.tx, b.fresh, nack, piggyback, own),
         draw: b.draw,
     }
 }

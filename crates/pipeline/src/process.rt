@@ -2,6 +2,7 @@
 ghost use Rattle.std.specs.Prelude.{◌≡◌};
 ghost use Rattle.pipeline.specs.Pipeline.{is_new, hear_new, merge_round, record_aborts, take_up, is_answer, answer_nack, process_one, parts_of, process_all, shortest_log, progressed, progress_all, stops_at};
 
+use super::pending::Voter;
 use super::two_pc_pipeline::{NodeTwoPcState, Outcome, Records, RoundPacket};
 use super::{logs, pending, prepare};
 use engines::clamp;
@@ -54,13 +55,13 @@ fn is_new(q: RoundPacket, s: NodeTwoPcState) -> bool
 }
 
 #[tactic(auto, unfolding(crate::specs::Pipeline::hear_new))]
-fn hear_new(words: &[u64], p: f64, i: usize, q: RoundPacket, s: NodeTwoPcState, d: Draw) -> Learnt
-    ensures { result ≡ hear_new words.now p i q s d }
+fn hear_new(voter: &Voter, q: RoundPacket, s: NodeTwoPcState, d: Draw) -> Learnt
+    ensures { result ≡ hear_new voter.now.words.now voter.now.abort_probability voter.now.position q s d }
 {
     if !is_new(q, s) {
         return Learnt { state: s, draw: d };
     }
-    let v = pending::vote(words, p, i, q.bits, q.abort, d);
+    let v = voter.vote(q.bits, q.abort, d);
     Learnt {
         state: pending::open_tx(s, q.tx, v.bits, v.abort),
         draw: v.draw,
@@ -128,61 +129,61 @@ fn answer_nack(nack: usize, s: NodeTwoPcState, l: Carried) -> Carried
     }
 }
 
-// All steps of one position, in the Rust's order. Its own judgements come last and are not recorded.
-#[tactic(auto, unfolding(crate::specs::Pipeline::process_one))]
-fn process_one(
-    words: &[u64],
-    p: f64,
-    facts: RoundFacts,
-    rounds: &[u64; 64],
-    q: RoundPacket,
-    i: usize,
-    s: NodeTwoPcState,
-    l: Carried,
-) -> Processed
-    ensures { result ≡ process_one words.now p facts rounds.now q i s l }
-{
-    let heard = hear_new(words, p, i, q, s, l.draw);
-    let merged = merge_round(i, q, heard.state);
-    let fast = pending::fast_aborts(merged);
-    let taken = take_up(q.piggyback, pending::abort_all(merged, fast));
-    let noted = Carried {
-        draw: heard.draw,
-        records: record_aborts(facts.slot, fast, l.records),
-        ..l
-    };
-    Processed {
-        state: pending::judge(facts.n, facts.round, rounds, taken),
-        carried: answer_nack(q.nack, taken, noted),
-    }
+// What all positions of a round process alike: the packet, the round in which each transaction was generated, and what
+// they vote by.
+#[derive(Clone, Copy)]
+pub struct Hearing<'a> {
+    pub words: &'a [u64],
+    pub abort_probability: f64,
+    pub facts: RoundFacts,
+    pub rounds: &'a [u64; 64],
+    pub packet: RoundPacket,
 }
 
-// The positions of this set, the lowest first.
-pub fn process_all(
-    words: &[u64],
-    p: f64,
-    facts: RoundFacts,
-    rounds: &[u64; 64],
-    q: RoundPacket,
-    parts: u64,
-    states: [NodeTwoPcState; 64],
-    l: Carried,
-) -> AllProcessed
-    ensures { result ≡ process_all words.now p facts rounds.now q parts (record { states = states; carried = l }) }
-{
-    let mut ss = states;
-    let mut m = l;
-    let mut left = parts;
-    while left != 0 {
-        let i = sets::lowest_mark(left);
-        let x = process_one(words, p, facts, rounds, q, i, ss[i], m);
-        ss[i] = x.state;
-        m = x.carried;
-        left = sets::without_mark(left, i);
+impl Hearing<'_> {
+    // All steps of one position, in the Rust's order. Its own judgements come last and are not recorded.
+    #[tactic(auto, unfolding(crate::specs::Pipeline::process_one))]
+    fn process_one(&self, i: usize, s: NodeTwoPcState, l: Carried) -> Processed
+        ensures { result ≡ process_one self.now.words.now self.now.abort_probability self.now.facts self.now.rounds.now self.now.packet i s l }
+    {
+        let voter = Voter {
+            words: self.words,
+            abort_probability: self.abort_probability,
+            position: i,
+        };
+        let heard = hear_new(&voter, self.packet, s, l.draw);
+        let merged = merge_round(i, self.packet, heard.state);
+        let fast = pending::fast_aborts(merged);
+        let taken = take_up(self.packet.piggyback, pending::abort_all(merged, fast));
+        let noted = Carried {
+            draw: heard.draw,
+            records: record_aborts(self.facts.slot, fast, l.records),
+            ..l
+        };
+        Processed {
+            state: pending::judge(self.facts.n, self.facts.round, self.rounds, taken),
+            carried: answer_nack(self.packet.nack, taken, noted),
+        }
     }
-    AllProcessed {
-        states: ss,
-        carried: m,
+
+    // The positions of this set, the lowest first.
+    pub fn process_all(&self, parts: u64, states: [NodeTwoPcState; 64], l: Carried) -> AllProcessed
+        ensures { result ≡ process_all self.now.words.now self.now.abort_probability self.now.facts self.now.rounds.now self.now.packet parts (record { states = states; carried = l }) }
+    {
+        let mut ss = states;
+        let mut m = l;
+        let mut left = parts;
+        while left != 0 {
+            let i = sets::lowest_mark(left);
+            let x = self.process_one(i, ss[i], m);
+            ss[i] = x.state;
+            m = x.carried;
+            left = sets::without_mark(left, i);
+        }
+        AllProcessed {
+            states: ss,
+            carried: m,
+        }
     }
 }
 

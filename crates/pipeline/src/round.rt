@@ -8,9 +8,10 @@ ghost use Rattle.engines.specs.Nodes.{inc};
 ghost use Rattle.engines.specs.Rounds.{placed};
 ghost use Rattle.pipeline.specs.Round.{deliver_all, covered_of, facts_of, initiator_of, preparing, bytes_of, flood_from, counted_in, processing, close_round, RoundSurveyed, rows_of_round};
 
+use super::pending::Voter;
 use super::pipeline::{PipelineConf, PipelinePart, RoundRun};
 use super::prepare::Prepared;
-use super::process::{AllProcessed, Carried, RoundFacts};
+use super::process::{AllProcessed, Carried, Hearing, RoundFacts};
 use super::two_pc_pipeline::RoundPacket;
 use super::{packet, pending, prepare, process};
 use engines::metrics::MetricsCollector;
@@ -144,10 +145,13 @@ impl RoundStart<'_> {
         ensures { result ≡ preparing self.now.words.now self.now.conf self.now.network.slot self.now.part (initiator_of self.now.conf self.now.part) self.now.draw }
     {
         let i = self.initiator();
+        let voter = Voter {
+            words: self.words,
+            abort_probability: self.conf.round.settings.abort_probability,
+            position: i,
+        };
         prepare::prepare_round(
-            self.words,
-            self.conf.round.settings.abort_probability,
-            i,
+            &voter,
             self.facts(self.network.slot),
             self.conf.transactions,
             self.part.txs,
@@ -171,19 +175,18 @@ impl RoundStart<'_> {
             piggyback: None,
             answers: 0,
         };
-        process::process_all(
-            self.words,
-            self.conf.round.settings.abort_probability,
-            self.facts(f.network.slot),
-            &prep.txs.rounds,
-            prep.packet,
-            parts,
-            states,
-            start,
-        )
+        let hearing = Hearing {
+            words: self.words,
+            abort_probability: self.conf.round.settings.abort_probability,
+            facts: self.facts(f.network.slot),
+            rounds: &prep.txs.rounds,
+            packet: prep.packet,
+        };
+        hearing.process_all(parts, states, start)
     }
 
-    // Behind the flood: the packet is delivered, whoever takes part processes it, and the room sees how far everybody is.
+    // Behind the flood: the packet is delivered, whoever takes part processes it, and the room sees how far everybody
+    // is.
     fn close(&self, prep: Prepared, f: FloodRun) -> RoundRun
         ensures { result ≡ close_round self.now.words.now self.now.conf self.now.part (initiator_of self.now.conf self.now.part) prep f }
     {

@@ -10,7 +10,8 @@ pub struct LogEntry {
     pub committed: bool,
 }
 
-// The first len entries, in the order in which they were entered.
+// The first len entries, in the order in which they were entered. No fact bounds len: a state that C lends may say any
+// number, and is taken as it is.
 #[derive(Clone, Copy)]
 pub struct TxLog {
     pub len: usize,
@@ -19,7 +20,7 @@ pub struct TxLog {
 
 // PendingTx by fields: a mark for each pending transaction and for each that has an abort, and the yes votes of each,
 // a mark for each position. The list of the Rust is always in rising order, since each transaction's data is on air
-// in one round only.
+// in one round only. Votes are no Option: C is given back also those that it lent of a transaction that is not pending.
 #[derive(Clone, Copy)]
 pub struct NodeTwoPcState {
     pub log: TxLog,
@@ -45,7 +46,8 @@ pub struct Outcome {
 }
 
 // What a round's packet says. The rest of a TwoPcPacket follows: the phase is Prepare, the bitmap has an entry for
-// each position, and the data is that of the transaction if it is new.
+// each position, and the data is that of the transaction if it is new. Nack 0 asks for nothing: the text has no other
+// word for it.
 #[derive(Clone, Copy, Debug, PartialEq, Eq)]
 pub struct RoundPacket {
     pub tx: usize,
@@ -65,7 +67,8 @@ pub struct Records {
     pub ends: [u64; 64],
 }
 
-// How many transactions were generated, and for each the slot and the round in which it was.
+// How many transactions were generated, and for each the slot and the round in which it was. Two arrays, since judging
+// is lent the rounds alone.
 #[derive(Clone, Copy)]
 pub struct Txs {
     pub counter: usize,

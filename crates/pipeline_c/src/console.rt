@@ -9,7 +9,7 @@
 //   9173 the packets that they hold, 9 numbers each; 9749 in all
 // A place past the end of the list reads as 0, and nothing is put there. An entry of a log is its transaction, and 256
 // more if it was committed.
-ghost use Rattle.std.specs.Prelude.{◌≡◌, [], ◌∷◌, ◌+◌, ◌*◌, ◌<◌, ◌≤◌};
+ghost use Rattle.std.specs.Prelude.{◌≡◌, [], ◌∷◌, ◌+◌, ◌*◌, ◌<◌, ◌≤◌, slice_index};
 ghost use Rattle.std.proofs.lemmas.List.Edits.{sets};
 ghost use Rattle.engines_c.specs.Numbers.{truth};
 ghost use Rattle.flood.specs.Flood.{flood_length};
@@ -30,6 +30,7 @@ use std::array;
 
 // ---- from numbers
 
+// (No From: the number is C's, and the crate of LogEntry knows of no C.)
 fn entry_numbered(k: u64) -> LogEntry
     ensures { result ≡ entry_numbered k }
 {
@@ -77,15 +78,17 @@ fn states_of(xs: &[u64]) -> [NodeTwoPcState; 64]
     array::from_fn(|i| state_of(xs, 789 + i * 131))
 }
 
-fn piggyback_numbered(there: u64, t: u64, outcome: u64) -> Option<Outcome>
-    ensures { result ≡ piggyback_numbered there t outcome }
+// The piggyback whose three numbers start at a place.
+fn piggyback_of(xs: &[u64], at: usize) -> Option<Outcome>
+    requires { at ≤ 10010 }
+    ensures { result ≡ piggyback_numbered (slice_index xs.now at) (slice_index xs.now (at + 1)) (slice_index xs.now (at + 2)) }
 {
-    if there == 0 {
+    if !numbers::is_yes(numbers::number(xs, at)) {
         return None;
     }
     Some(Outcome {
-        tx: t as usize,
-        committed: outcome != 0,
+        tx: numbers::number(xs, at + 1) as usize,
+        committed: numbers::number(xs, at + 2) != 0,
     })
 }
 
@@ -94,9 +97,6 @@ fn packet_of(xs: &[u64], at: usize) -> RoundPacket
     requires { at ≤ 10000 }
     ensures { result ≡ packet_at xs.now at }
 {
-    let there = numbers::number(xs, at + 6);
-    let t = numbers::number(xs, at + 7);
-    let outcome = numbers::number(xs, at + 8);
     RoundPacket {
         tx: numbers::number(xs, at) as usize,
         bits: numbers::number(xs, at + 1),
@@ -104,7 +104,7 @@ fn packet_of(xs: &[u64], at: usize) -> RoundPacket
         nack: numbers::number(xs, at + 3) as usize,
         fresh: numbers::number(xs, at + 4) != 0,
         sender: numbers::number(xs, at + 5) as usize,
-        piggyback: piggyback_numbered(there, t, outcome),
+        piggyback: piggyback_of(xs, at + 6),
     }
 }
 
@@ -139,15 +139,12 @@ fn records_of(xs: &[u64]) -> Records
 fn part_of(xs: &[u64]) -> PipelinePart
     ensures { result ≡ part_at xs.now }
 {
-    let there = numbers::number(xs, 15);
-    let t = numbers::number(xs, 16);
-    let outcome = numbers::number(xs, 17);
     PipelinePart {
         round: numbers::number(xs, 2),
         stop: numbers::number(xs, 4) != 0,
         states: states_of(xs),
         txs: txs_of(xs),
-        piggyback: piggyback_numbered(there, t, outcome),
+        piggyback: piggyback_of(xs, 15),
         records: records_of(xs),
         payloads: packets_of(xs),
         holding: numbers::number(xs, 18),

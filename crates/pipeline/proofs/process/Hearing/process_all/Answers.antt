@@ -2,7 +2,7 @@ use Rattle.std.proofs.Common.{refl, arith}
 use Rattle.marks.specs.Sets.{lowest_lt}
 use Rattle.engines.proofs.Marking.{without, over_less, over_turn, over_none}
 use Rattle.pipeline.specs.Pipeline.{process_at, process_all}
-use Rattle.pipeline.proofs.process.process_all.Goals as goal
+use Rattle.pipeline.proofs.process.Hearing.process_all.Goals as goal
 
 pub loop-left-init : goal.loop-left-init
 loop-left-init c = (omega arith, refl)
