@@ -83,7 +83,7 @@ fn piggyback_of(xs: &[u64], at: usize) -> Option<Outcome>
     requires { at ≤ 10010 }
     ensures { result ≡ piggyback_numbered (slice_index xs.now at) (slice_index xs.now (at + 1)) (slice_index xs.now (at + 2)) }
 {
-    if !numbers::is_yes(numbers::number(xs, at)) {
+    if numbers::number(xs, at) == 0 {
         return None;
     }
     Some(Outcome {

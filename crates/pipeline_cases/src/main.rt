@@ -58,7 +58,7 @@ struct Asked {
 impl Asked {
     fn conf(&self) -> PipelineConf {
         let repeats = (self.repeats % 4294967296) as u32;
-        let diameter = self.graph.diameter().links;
+        let diameter = self.graph.diameter().unwrap_or(0);
         let settings = Settings {
             loss_rate: self.loss_rate,
             abort_probability: self.abort_probability,
