@@ -183,6 +183,7 @@ impl<T: Field> Field for Option<T> {
         }
     }
 
+    #[tactic(auto, using(texts::specs::LiteralLaws::lit_le), unfolding(crate::specs::Reading::option_at, texts::specs::Readers::or_null, texts::specs::Readers::map))]
     fn read(s: &[u8], at: usize) -> Option<(Option<T>, usize)> {
         if read::lit_at(s, at, b"null") {
             return Some((None, at + 4));
@@ -201,6 +202,7 @@ pub(crate) fn put_field<T: Field>(w: &mut Writer, key: &[u8], value: T)
     value.put(w);
 }
 
+#[tactic(auto, using(texts::specs::LiteralLaws::lit_le), unfolding(texts::specs::Readers::behind))]
 pub(crate) fn read_field<T: Field>(s: &[u8], at: usize, key: &[u8]) -> Option<(T, usize)>
     requires { 0 < length key.now }
     ensures { result ≡ behind key.now T.found s.now at }

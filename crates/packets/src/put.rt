@@ -116,6 +116,7 @@ impl<'a> Writer<'a> {
         self.rest(rest);
     }
 
+    #[tactic(auto, unfolding(crate::specs::Packets::data_text))]
     pub(crate) fn data(&mut self, d: Data)
         requires { (d.len ≤ data_bytes) × RoomIn self.old (data_text d) }
         ensures { Wrote self.old (data_text d) self.new }

@@ -12,6 +12,7 @@ use limits::refusals::Refusal;
 
 // The length of a packet's text from its parts, `data` being the length of its data's text; 0 where the bitmap has too
 // many entries, or `data` is 0 or more than such a text can have. Names, braces, commas and colons are 51 bytes.
+#[tactic(auto, using(crate::proofs::Texts::bitmap_len_is), unfolding(crate::specs::Writing::parts_len))]
 pub fn ce_parts_len(term: u64, phase: TwoPcPhase, data: usize, flags_bitmap: Bitmap) -> usize
     ensures { result ≡ parts_len term phase «data» flags_bitmap }
 {
@@ -57,6 +58,7 @@ pub fn write_ce_packet(buf: &mut [u8], at: usize, p: CeTwoPcPacket) -> Result<us
     Ok(w.at)
 }
 
+#[tactic(auto, unfolding(crate::specs::Reading::ce_at, crate::specs::Reading::ce_fields, texts::specs::Readers::whole, texts::specs::Readers::both, texts::specs::Readers::on))]
 fn read_ce(s: &[u8]) -> Option<CeTwoPcPacket>
     ensures { result ≡ ce_at s.now }
 {
@@ -76,6 +78,7 @@ fn read_ce(s: &[u8]) -> Option<CeTwoPcPacket>
 }
 
 // Reads the packet whose text the first len bytes of s are: refusal 10 if s has fewer, 9 for any other text.
+#[tactic(auto, unfolding(crate::specs::Reading::ce_read, crate::specs::Reading::ce_read_of))]
 pub fn read_ce_packet(s: &[u8], len: usize) -> Result<CeTwoPcPacket, Refusal>
     ensures { result ≡ ce_read s.now len }
 {

@@ -11,6 +11,7 @@ use crate::{Bitmap, Data, TwoPcPacket, TwoPcPhase, len, read};
 use limits::refusals::Refusal;
 
 // The names, braces, commas and colons are 137 bytes.
+#[tactic(auto, using(crate::proofs::Writes::limits_true, crate::proofs::Writes::pipeline_length))]
 fn pipeline_len(p: TwoPcPacket) -> usize
     requires { IsTrue (pipeline_within p) }
     ensures { result ≡ length (pipeline_text p) }
@@ -69,6 +70,7 @@ pub fn write_pipeline_packet(buf: &mut [u8], at: usize, p: TwoPcPacket) -> Resul
     Ok(w.at)
 }
 
+#[tactic(auto, unfolding(crate::specs::Reading::pipeline_at, crate::specs::Reading::pipeline_fields, texts::specs::Readers::whole, texts::specs::Readers::both, texts::specs::Readers::on))]
 fn read_pipeline(s: &[u8]) -> Option<TwoPcPacket>
     ensures { result ≡ pipeline_at s.now }
 {
@@ -98,6 +100,7 @@ fn read_pipeline(s: &[u8]) -> Option<TwoPcPacket>
 }
 
 // Reads the packet whose text the first len bytes of s are: refusal 10 if s has fewer, 9 for any other text.
+#[tactic(auto, unfolding(crate::specs::Reading::pipeline_read, crate::specs::Reading::pipeline_read_of))]
 pub fn read_pipeline_packet(s: &[u8], len: usize) -> Result<TwoPcPacket, Refusal>
     ensures { result ≡ pipeline_read s.now len }
 {
