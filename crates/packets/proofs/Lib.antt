@@ -1,3 +1,4 @@
+pub mod Writers
 pub mod Texts
 pub mod Words
 pub mod Writes

@@ -2,13 +2,14 @@
 // and how it is read.
 ghost use Rattle.std.specs.Prelude.{◌≡◌, ⊤, true, false, ℕ, List, ◌++◌, ◌^◌, ◌+◌, ◌≤◌, ◌<◌, length};
 ghost use Rattle.limits.specs.Limits.{bitmap_entries, data_bytes};
-ghost use Rattle.texts.specs.Put.{Put, Room};
 ghost use Rattle.texts.specs.Decimal.{decimal};
 ghost use Rattle.texts.specs.Readers.{Reader, behind, num_at, bool_at, bool_text};
 ghost use Rattle.packets.specs.Packets.{Within, phase_text, bitmap_text, data_text, option_text};
+ghost use Rattle.packets.specs.Writers.{RoomIn, Wrote};
 ghost use Rattle.packets.specs.Reading.{phase_at, bitmap_at, data_at, option_at};
 
-use crate::{Bitmap, Data, TwoPcPhase, len, put, read};
+use crate::put::Writer;
+use crate::{Bitmap, Data, TwoPcPhase, len, read};
 
 pub(crate) trait Field: Copy {
     // The text of a value.
@@ -26,10 +27,10 @@ pub(crate) trait Field: Copy {
         requires { Fits self }
         ensures { (result ≡ length (text self)) × (result ≤ most) };
 
-    // Called where the text fits; leaves every other byte as it was, and answers with the place behind the text.
-    fn put(self, buf: &mut [u8], at: usize) -> usize
-        requires { Fits self × Room buf.old at (text self) }
-        ensures { Put buf.old at (text self) result buf.new };
+    // Called where the text fits.
+    fn put(self, w: &mut Writer)
+        requires { Fits self × RoomIn w.old (text self) }
+        ensures { Wrote w.old (text self) w.new };
 
     // Takes exactly what `put` writes, and answers with the place behind it.
     fn read(s: &[u8], at: usize) -> Option<(Self, usize)>
@@ -49,8 +50,8 @@ impl Field for u64 {
         len::decimal_len(self)
     }
 
-    fn put(self, buf: &mut [u8], at: usize) -> usize {
-        put::put_decimal(buf, at, self)
+    fn put(self, w: &mut Writer) {
+        w.decimal(self)
     }
 
     fn read(s: &[u8], at: usize) -> Option<(u64, usize)> {
@@ -71,11 +72,11 @@ impl Field for bool {
         if self { 4 } else { 5 }
     }
 
-    fn put(self, buf: &mut [u8], at: usize) -> usize {
+    fn put(self, w: &mut Writer) {
         if self {
-            put::put_all(buf, at, b"true")
+            w.all(b"true")
         } else {
-            put::put_all(buf, at, b"false")
+            w.all(b"false")
         }
     }
 
@@ -101,11 +102,11 @@ impl Field for TwoPcPhase {
         }
     }
 
-    fn put(self, buf: &mut [u8], at: usize) -> usize {
+    fn put(self, w: &mut Writer) {
         match self {
-            TwoPcPhase::Prepare => put::put_all(buf, at, b"\"Prepare\""),
-            TwoPcPhase::Committed => put::put_all(buf, at, b"\"Committed\""),
-            TwoPcPhase::Aborted => put::put_all(buf, at, b"\"Aborted\""),
+            TwoPcPhase::Prepare => w.all(b"\"Prepare\""),
+            TwoPcPhase::Committed => w.all(b"\"Committed\""),
+            TwoPcPhase::Aborted => w.all(b"\"Aborted\""),
         }
     }
 
@@ -127,8 +128,8 @@ impl Field for Bitmap {
         len::bitmap_len(self)
     }
 
-    fn put(self, buf: &mut [u8], at: usize) -> usize {
-        put::put_bitmap(buf, at, self)
+    fn put(self, w: &mut Writer) {
+        w.bitmap(self)
     }
 
     fn read(s: &[u8], at: usize) -> Option<(Bitmap, usize)> {
@@ -149,8 +150,8 @@ impl Field for Data {
         len::data_len(self)
     }
 
-    fn put(self, buf: &mut [u8], at: usize) -> usize {
-        put::put_data(buf, at, self)
+    fn put(self, w: &mut Writer) {
+        w.data(self)
     }
 
     fn read(s: &[u8], at: usize) -> Option<(Data, usize)> {
@@ -175,13 +176,14 @@ impl<T: Field> Field for Option<T> {
         }
     }
 
-    fn put(self, buf: &mut [u8], at: usize) -> usize {
+    fn put(self, w: &mut Writer) {
         match self {
-            None => put::put_all(buf, at, b"null"),
-            Some(value) => value.put(buf, at),
+            None => w.all(b"null"),
+            Some(value) => value.put(w),
         }
     }
 
+    #[tactic(auto, using(texts::specs::LiteralLaws::lit_le), unfolding(crate::specs::Reading::option_at, texts::specs::Readers::or_null, texts::specs::Readers::map))]
     fn read(s: &[u8], at: usize) -> Option<(Option<T>, usize)> {
         if read::lit_at(s, at, b"null") {
             return Some((None, at + 4));
@@ -192,14 +194,15 @@ impl<T: Field> Field for Option<T> {
 }
 
 // A field: its name, with what stands around it, and the value.
-pub(crate) fn put_field<T: Field>(buf: &mut [u8], at: usize, key: &[u8], value: T) -> usize
-    requires { T.Fits value × Room buf.old at (key.now ++ T.text value) }
-    ensures { Put buf.old at (key.now ++ T.text value) result buf.new }
+pub(crate) fn put_field<T: Field>(w: &mut Writer, key: &[u8], value: T)
+    requires { T.Fits value × RoomIn w.old (key.now ++ T.text value) }
+    ensures { Wrote w.old (key.now ++ T.text value) w.new }
 {
-    let next = put::put_all(buf, at, key);
-    value.put(buf, next)
+    w.all(key);
+    value.put(w);
 }
 
+#[tactic(auto, using(texts::specs::LiteralLaws::lit_le), unfolding(texts::specs::Readers::behind))]
 pub(crate) fn read_field<T: Field>(s: &[u8], at: usize, key: &[u8]) -> Option<(T, usize)>
     requires { 0 < length key.now }
     ensures { result ≡ behind key.now T.found s.now at }

@@ -54,6 +54,7 @@ fn bytes_len(bytes: &[u8]) -> usize
     len
 }
 
+#[tactic(auto, using(crate::proofs::Texts::list_len_none, crate::proofs::Texts::list_len_more), unfolding(crate::specs::Packets::data_text))]
 pub(crate) fn data_len(d: Data) -> usize
     requires { d.len ≤ data_bytes }
     ensures { (result ≡ length (data_text d)) × (result ≤ 129) }
@@ -66,6 +67,7 @@ pub(crate) fn data_len(d: Data) -> usize
 }
 
 // The length of the data's text, 0 for data of too many bytes, which has none.
+#[tactic(auto, unfolding(crate::specs::Writing::data_len))]
 pub fn data_text_len(d: Data) -> usize
     ensures { (result ≡ data_len d) × (result ≤ 129) }
 {

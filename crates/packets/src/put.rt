@@ -3,118 +3,125 @@
 ghost use Rattle.std.specs.Prelude.{[], ◌∷◌, ◌≤◌, ◌<◌, length};
 ghost use Rattle.limits.specs.Limits.{data_bytes};
 ghost use Rattle.marks.specs.Marks.{marks_of};
-ghost use Rattle.texts.specs.Put.{Put, Room};
 ghost use Rattle.texts.specs.Decimal.{decimal};
 ghost use Rattle.texts.specs.Readers.{bool_text, items_text, list_text};
 ghost use Rattle.packets.specs.Packets.{bitmap_text, data_text};
+ghost use Rattle.packets.specs.Writers.{RoomIn, Wrote};
 
 use crate::field::Field;
 use crate::{Bitmap, Data};
 
-pub fn put_byte(buf: &mut [u8], at: usize, b: u8) -> usize
-    requires { at < length buf.old }
-    ensures { Put buf.old at (b ∷ []) result buf.new }
-{
-    buf[at] = b;
-    at + 1
+// A lent buffer, and the place in it where the next text goes.
+#[derive(Drop)]
+pub struct Writer<'a> {
+    pub buf: &'a mut [u8],
+    pub at: usize,
 }
 
-pub fn put_all(buf: &mut [u8], at: usize, src: &[u8]) -> usize
-    requires { Room buf.old at src.now }
-    ensures { Put buf.old at src.now result buf.new }
-{
-    let next = at + src.len();
-    buf[at..next].copy_from_slice(src);
-    next
-}
-
-// The digits before the last one first, so that nothing has to be turned round.
-pub fn put_decimal(buf: &mut [u8], at: usize, n: u64) -> usize
-    requires { Room buf.old at (decimal n) }
-    ensures { Put buf.old at (decimal n) result buf.new }
-{
-    if n < 10 {
-        put_byte(buf, at, (n % 10) as u8 + 48)
-    } else {
-        let next = put_decimal(buf, at, n / 10);
-        put_byte(buf, next, (n % 10) as u8 + 48)
+impl<'a> Writer<'a> {
+    pub fn byte(&mut self, b: u8)
+        requires { self.old.at < length self.old.buf.now }
+        ensures { Wrote self.old (b ∷ []) self.new }
+    {
+        self.buf[self.at] = b;
+        self.at += 1;
     }
-}
 
-// What follows a bitmap's first entry: n marks of m, the lowest first, each behind a comma, and the bracket.
-fn put_marks(buf: &mut [u8], at: usize, m: u64, n: usize) -> usize
-    requires { Room buf.old at (items_text bool_text (marks_of m n)) }
-    ensures { Put buf.old at (items_text bool_text (marks_of m n)) result buf.new }
-{
-    let mut next = at;
-    let mut rest = m;
-    for done in 0..n {
-        next = put_byte(buf, next, b',');
-        next = (rest % 2 == 1).put(buf, next);
-        rest = rest / 2;
+    pub fn all(&mut self, src: &[u8])
+        requires { RoomIn self.old src.now }
+        ensures { Wrote self.old src.now self.new }
+    {
+        let next = self.at + src.len();
+        self.buf[self.at..next].copy_from_slice(src);
+        self.at = next;
     }
-    put_byte(buf, next, b']')
-}
 
-pub(crate) fn put_bitmap(buf: &mut [u8], at: usize, b: Bitmap) -> usize
-    requires { Room buf.old at (bitmap_text b) }
-    ensures { Put buf.old at (bitmap_text b) result buf.new }
-{
-    if b.len == 0 {
-        return put_all(buf, at, b"[]");
+    // The digits before the last one first, so that nothing has to be turned round.
+    pub fn decimal(&mut self, n: u64)
+        requires { RoomIn self.old (decimal n) }
+        ensures { Wrote self.old (decimal n) self.new }
+    {
+        if n < 10 {
+            return self.byte((n % 10) as u8 + b'0');
+        }
+        self.decimal(n / 10);
+        self.byte((n % 10) as u8 + b'0');
     }
-    let first = put_byte(buf, at, b'[');
-    let next = (b.marks % 2 == 1).put(buf, first);
-    put_marks(buf, next, b.marks / 2, b.len - 1)
-}
 
-// A byte in decimal: at most three digits, so with no recursion.
-fn put_small(buf: &mut [u8], at: usize, b: u8) -> usize
-    requires { Room buf.old at (decimal b) }
-    ensures { Put buf.old at (decimal b) result buf.new }
-{
-    if b < 10 {
-        return put_byte(buf, at, b % 10 + 48);
+    // A byte in decimal: at most three digits, so with no recursion.
+    fn small(&mut self, b: u8)
+        requires { RoomIn self.old (decimal b) }
+        ensures { Wrote self.old (decimal b) self.new }
+    {
+        if b < 10 {
+            return self.byte(b % 10 + b'0');
+        }
+        if b < 100 {
+            self.byte(b / 10 + b'0');
+            return self.byte(b % 10 + b'0');
+        }
+        self.byte(b / 100 + b'0');
+        self.byte(b / 10 % 10 + b'0');
+        self.byte(b % 10 + b'0');
     }
-    if b < 100 {
-        let o = put_byte(buf, at, b / 10 + 48);
-        return put_byte(buf, o, b % 10 + 48);
+
+    // What follows a bitmap's first entry: n marks of m, the lowest first, each behind a comma, and the bracket.
+    fn marks(&mut self, m: u64, n: usize)
+        requires { RoomIn self.old (items_text bool_text (marks_of m n)) }
+        ensures { Wrote self.old (items_text bool_text (marks_of m n)) self.new }
+    {
+        let mut rest = m;
+        for done in 0..n {
+            self.byte(b',');
+            (rest % 2 == 1).put(self);
+            rest = rest / 2;
+        }
+        self.byte(b']');
     }
-    let o = put_byte(buf, at, b / 100 + 48);
-    let p = put_byte(buf, o, b / 10 % 10 + 48);
-    put_byte(buf, p, b % 10 + 48)
-}
 
-// What follows the first byte of an array.
-fn put_rest(buf: &mut [u8], at: usize, bytes: &[u8]) -> usize
-    requires { Room buf.old at (items_text decimal bytes.now) }
-    ensures { Put buf.old at (items_text decimal bytes.now) result buf.new }
-{
-    let mut next = at;
-    for &b in bytes {
-        next = put_byte(buf, next, b',');
-        next = put_small(buf, next, b);
+    pub(crate) fn bitmap(&mut self, b: Bitmap)
+        requires { RoomIn self.old (bitmap_text b) }
+        ensures { Wrote self.old (bitmap_text b) self.new }
+    {
+        if b.len == 0 {
+            return self.all(b"[]");
+        }
+        self.byte(b'[');
+        (b.marks % 2 == 1).put(self);
+        self.marks(b.marks / 2, b.len - 1);
     }
-    put_byte(buf, next, b']')
-}
 
-// Bytes as an array.
-fn put_bytes(buf: &mut [u8], at: usize, bytes: &[u8]) -> usize
-    requires { Room buf.old at (list_text decimal bytes.now) }
-    ensures { Put buf.old at (list_text decimal bytes.now) result buf.new }
-{
-    let Some((&byte, rest)) = bytes.split_first() else {
-        return put_all(buf, at, b"[]");
-    };
-    let first = put_byte(buf, at, b'[');
-    let next = put_small(buf, first, byte);
-    put_rest(buf, next, rest)
-}
+    // What follows the first byte of an array.
+    fn rest(&mut self, bytes: &[u8])
+        requires { RoomIn self.old (items_text decimal bytes.now) }
+        ensures { Wrote self.old (items_text decimal bytes.now) self.new }
+    {
+        for &b in bytes {
+            self.byte(b',');
+            self.small(b);
+        }
+        self.byte(b']');
+    }
 
-pub(crate) fn put_data(buf: &mut [u8], at: usize, d: Data) -> usize
-    requires { (d.len ≤ data_bytes) × Room buf.old at (data_text d) }
-    ensures { Put buf.old at (data_text d) result buf.new }
-{
-    let bytes = d.bytes;
-    put_bytes(buf, at, &bytes[..d.len])
+    // Bytes as an array.
+    fn bytes(&mut self, bytes: &[u8])
+        requires { RoomIn self.old (list_text decimal bytes.now) }
+        ensures { Wrote self.old (list_text decimal bytes.now) self.new }
+    {
+        let Some((&byte, rest)) = bytes.split_first() else {
+            return self.all(b"[]");
+        };
+        self.byte(b'[');
+        self.small(byte);
+        self.rest(rest);
+    }
+
+    #[tactic(auto, unfolding(crate::specs::Packets::data_text))]
+    pub(crate) fn data(&mut self, d: Data)
+        requires { (d.len ≤ data_bytes) × RoomIn self.old (data_text d) }
+        ensures { Wrote self.old (data_text d) self.new }
+    {
+        let bytes = d.bytes;
+        self.bytes(&bytes[..d.len]);
+    }
 }

@@ -9,6 +9,7 @@ ghost use Rattle.packets.specs.Reading.{phase_at, bitmap_at, data_at};
 
 use crate::{Bitmap, Data, TwoPcPhase};
 
+#[tactic(auto, using(crate::proofs::Slices::byte_there, crate::proofs::Slices::byte_none))]
 fn byte_at(s: &[u8], at: usize, b: u8) -> bool
     ensures { result ≡ lit_at s.now at (b ∷ []) }
 {
@@ -22,6 +23,7 @@ pub(crate) fn lit_at(s: &[u8], at: usize, t: &[u8]) -> bool
 }
 
 // The closing brace, and nothing behind it.
+#[tactic(auto, using(texts::specs::LiteralLaws::lit_le), unfolding(texts::specs::Readers::ends_at))]
 pub(crate) fn ends_at(s: &[u8], at: usize) -> bool
     ensures { result ≡ ends_at s.now at key_end }
 {
@@ -29,6 +31,7 @@ pub(crate) fn ends_at(s: &[u8], at: usize) -> bool
 }
 
 // A digit stands at index at, and a 0 there has no digit behind it.
+#[tactic(auto, using(crate::proofs::Slices::digit_is, texts::specs::NumberLaws::head_end, texts::specs::NumberLaws::head_at, texts::specs::NumberLaws::starts_end, texts::specs::NumberLaws::starts_other, texts::specs::NumberLaws::starts_zero))]
 fn starts_num(s: &[u8], at: usize) -> bool
     ensures { result ≡ starts_num (drop at s.now) }
 {
@@ -68,6 +71,7 @@ pub(crate) fn read_num(s: &[u8], at: usize, most: u64) -> Option<(u64, usize)>
     Some((v, s.len()))
 }
 
+#[tactic(auto, using(texts::specs::LiteralLaws::lit_le), unfolding(texts::specs::Readers::bool_at))]
 pub(crate) fn read_bool(s: &[u8], at: usize) -> Option<(bool, usize)>
     ensures { result ≡ bool_at s.now at }
 {
@@ -80,6 +84,7 @@ pub(crate) fn read_bool(s: &[u8], at: usize) -> Option<(bool, usize)>
     None
 }
 
+#[tactic(auto, using(texts::specs::LiteralLaws::lit_le), unfolding(crate::specs::Reading::phase_at))]
 pub(crate) fn read_phase(s: &[u8], at: usize) -> Option<(TwoPcPhase, usize)>
     ensures { result ≡ phase_at s.now at }
 {

@@ -1,16 +1,18 @@
 // RULES 5.1. The text of the capture rooms' packets: the packet half of two_pc_ce.rs.
 ghost use Rattle.std.specs.Prelude.{◌≡◌, IsTrue};
-ghost use Rattle.texts.specs.Put.{Put, Room};
 ghost use Rattle.packets.specs.Packets.{ce_text, ce_within, proposal_data};
 ghost use Rattle.packets.specs.Writing.{text_len, parts_len, wrote_of, left_of};
+ghost use Rattle.packets.specs.Writers.{RoomIn, Wrote};
 ghost use Rattle.packets.specs.Reading.{ce_at, ce_read};
 
 use crate::field::{Field, put_field, read_field};
-use crate::{Bitmap, CeTwoPcPacket, Data, TwoPcPhase, len, put, read};
+use crate::put::Writer;
+use crate::{Bitmap, CeTwoPcPacket, Data, TwoPcPhase, len, read};
 use limits::refusals::Refusal;
 
 // The length of a packet's text from its parts, `data` being the length of its data's text; 0 where the bitmap has too
 // many entries, or `data` is 0 or more than such a text can have. Names, braces, commas and colons are 51 bytes.
+#[tactic(auto, using(crate::proofs::Texts::bitmap_len_is), unfolding(crate::specs::Writing::parts_len))]
 pub fn ce_parts_len(term: u64, phase: TwoPcPhase, data: usize, flags_bitmap: Bitmap) -> usize
     ensures { result ≡ parts_len term phase «data» flags_bitmap }
 {
@@ -28,15 +30,15 @@ pub fn ce_text_len(p: CeTwoPcPacket) -> usize
     ce_parts_len(p.term, p.phase, data, p.flags_bitmap)
 }
 
-fn put_ce(buf: &mut [u8], at: usize, p: CeTwoPcPacket) -> usize
-    requires { IsTrue (ce_within p) × Room buf.old at (ce_text p) }
-    ensures { Put buf.old at (ce_text p) result buf.new }
+fn put_ce(w: &mut Writer, p: CeTwoPcPacket)
+    requires { IsTrue (ce_within p) × RoomIn w.old (ce_text p) }
+    ensures { Wrote w.old (ce_text p) w.new }
 {
-    let at = put_field(buf, at, b"{\"term\":", p.term);
-    let at = put_field(buf, at, b",\"phase\":", p.phase);
-    let at = put_field(buf, at, b",\"proposal_data\":", p.proposal_data);
-    let at = put_field(buf, at, b",\"flags_bitmap\":", p.flags_bitmap);
-    put::put_byte(buf, at, b'}')
+    put_field(w, b"{\"term\":", p.term);
+    put_field(w, b",\"phase\":", p.phase);
+    put_field(w, b",\"proposal_data\":", p.proposal_data);
+    put_field(w, b",\"flags_bitmap\":", p.flags_bitmap);
+    w.byte(b'}');
 }
 
 // Writes a packet's text from index at on, and answers with the index behind it: refusal 9 outside the limits, 10 where
@@ -51,9 +53,12 @@ pub fn write_ce_packet(buf: &mut [u8], at: usize, p: CeTwoPcPacket) -> Result<us
     if at > buf.len() || ce_text_len(p) > buf.len() - at {
         return Err(Refusal::NoFit);
     }
-    Ok(put_ce(buf, at, p))
+    let mut w = Writer { buf, at };
+    put_ce(&mut w, p);
+    Ok(w.at)
 }
 
+#[tactic(auto, unfolding(crate::specs::Reading::ce_at, crate::specs::Reading::ce_fields, texts::specs::Readers::whole, texts::specs::Readers::both, texts::specs::Readers::on))]
 fn read_ce(s: &[u8]) -> Option<CeTwoPcPacket>
     ensures { result ≡ ce_at s.now }
 {
@@ -73,6 +78,7 @@ fn read_ce(s: &[u8]) -> Option<CeTwoPcPacket>
 }
 
 // Reads the packet whose text the first len bytes of s are: refusal 10 if s has fewer, 9 for any other text.
+#[tactic(auto, unfolding(crate::specs::Reading::ce_read, crate::specs::Reading::ce_read_of))]
 pub fn read_ce_packet(s: &[u8], len: usize) -> Result<CeTwoPcPacket, Refusal>
     ensures { result ≡ ce_read s.now len }
 {
@@ -87,7 +93,12 @@ pub fn proposal_data(term: u64) -> Data
     ensures { result ≡ proposal_data term }
 {
     let mut bytes = [0u8; 32];
-    let o = put::put_all(&mut bytes, 0, b"tx");
-    let next = put::put_decimal(&mut bytes, o, term);
-    Data { len: next, bytes }
+    let mut w = Writer {
+        buf: &mut bytes,
+        at: 0,
+    };
+    w.all(b"tx");
+    w.decimal(term);
+    let len = w.at;
+    Data { len, bytes }
 }

@@ -1,15 +1,17 @@
 // RULES 5.2. The text of the pipeline rooms' packets: the packet half of two_pc_pipeline.rs.
 ghost use Rattle.std.specs.Prelude.{◌≡◌, IsTrue, length};
-ghost use Rattle.texts.specs.Put.{Put, Room};
 ghost use Rattle.packets.specs.Packets.{pipeline_text, pipeline_within};
 ghost use Rattle.packets.specs.Writing.{text_len, wrote_of, left_of};
+ghost use Rattle.packets.specs.Writers.{RoomIn, Wrote};
 ghost use Rattle.packets.specs.Reading.{pipeline_at, pipeline_read};
 
 use crate::field::{Field, put_field, read_field};
-use crate::{Bitmap, Data, TwoPcPacket, TwoPcPhase, len, put, read};
+use crate::put::Writer;
+use crate::{Bitmap, Data, TwoPcPacket, TwoPcPhase, len, read};
 use limits::refusals::Refusal;
 
 // The names, braces, commas and colons are 137 bytes.
+#[tactic(auto, using(crate::proofs::Writes::limits_true, crate::proofs::Writes::pipeline_length))]
 fn pipeline_len(p: TwoPcPacket) -> usize
     requires { IsTrue (pipeline_within p) }
     ensures { result ≡ length (pipeline_text p) }
@@ -35,20 +37,20 @@ pub fn pipeline_text_len(p: TwoPcPacket) -> usize
     pipeline_len(p)
 }
 
-fn put_pipeline(buf: &mut [u8], at: usize, p: TwoPcPacket) -> usize
-    requires { IsTrue (pipeline_within p) × Room buf.old at (pipeline_text p) }
-    ensures { Put buf.old at (pipeline_text p) result buf.new }
+fn put_pipeline(w: &mut Writer, p: TwoPcPacket)
+    requires { IsTrue (pipeline_within p) × RoomIn w.old (pipeline_text p) }
+    ensures { Wrote w.old (pipeline_text p) w.new }
 {
-    let at = put_field(buf, at, b"{\"transaction_id\":", p.transaction_id);
-    let at = put_field(buf, at, b",\"state\":", p.state);
-    let at = put_field(buf, at, b",\"flags_bitmap\":", p.flags_bitmap);
-    let at = put_field(buf, at, b",\"abort_flag\":", p.abort_flag);
-    let at = put_field(buf, at, b",\"nack_tx_id\":", p.nack_tx_id);
-    let at = put_field(buf, at, b",\"transaction_data\":", p.transaction_data);
-    let at = put_field(buf, at, b",\"sender\":", p.sender);
-    let at = put_field(buf, at, b",\"piggyback_tx\":", p.piggyback_tx);
-    let at = put_field(buf, at, b",\"piggyback_state\":", p.piggyback_state);
-    put::put_byte(buf, at, b'}')
+    put_field(w, b"{\"transaction_id\":", p.transaction_id);
+    put_field(w, b",\"state\":", p.state);
+    put_field(w, b",\"flags_bitmap\":", p.flags_bitmap);
+    put_field(w, b",\"abort_flag\":", p.abort_flag);
+    put_field(w, b",\"nack_tx_id\":", p.nack_tx_id);
+    put_field(w, b",\"transaction_data\":", p.transaction_data);
+    put_field(w, b",\"sender\":", p.sender);
+    put_field(w, b",\"piggyback_tx\":", p.piggyback_tx);
+    put_field(w, b",\"piggyback_state\":", p.piggyback_state);
+    w.byte(b'}');
 }
 
 // Writes a packet's text from index at on, and answers with the index behind it: refusal 9 outside the limits, 10 where
@@ -63,9 +65,12 @@ pub fn write_pipeline_packet(buf: &mut [u8], at: usize, p: TwoPcPacket) -> Resul
     if at > buf.len() || pipeline_len(p) > buf.len() - at {
         return Err(Refusal::NoFit);
     }
-    Ok(put_pipeline(buf, at, p))
+    let mut w = Writer { buf, at };
+    put_pipeline(&mut w, p);
+    Ok(w.at)
 }
 
+#[tactic(auto, unfolding(crate::specs::Reading::pipeline_at, crate::specs::Reading::pipeline_fields, texts::specs::Readers::whole, texts::specs::Readers::both, texts::specs::Readers::on))]
 fn read_pipeline(s: &[u8]) -> Option<TwoPcPacket>
     ensures { result ≡ pipeline_at s.now }
 {
@@ -95,6 +100,7 @@ fn read_pipeline(s: &[u8]) -> Option<TwoPcPacket>
 }
 
 // Reads the packet whose text the first len bytes of s are: refusal 10 if s has fewer, 9 for any other text.
+#[tactic(auto, unfolding(crate::specs::Reading::pipeline_read, crate::specs::Reading::pipeline_read_of))]
 pub fn read_pipeline_packet(s: &[u8], len: usize) -> Result<TwoPcPacket, Refusal>
     ensures { result ≡ pipeline_read s.now len }
 {

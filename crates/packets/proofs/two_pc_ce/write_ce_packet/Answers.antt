@@ -1,4 +1,4 @@
-use Rattle.std.proofs.Common.{◌+◌, ◌<◌, length, sym, ◌∙◌, arith}
+use Rattle.std.proofs.Common.{rules, ◌+◌, ◌<◌, length, sym, ◌∙◌, arith}
 use Rattle.packets.proofs.Writes.{measured, wrote_bad, wrote_short, wrote}
 use Rattle.packets.specs.Packets.{ce_text, ce_within}
 use Rattle.packets.proofs.two_pc_ce.write_ce_packet.Goals.{then-at-buf-via-then-at-buf, then-at-buf-via-else-at-buf+then-ce_text_len-buf}
@@ -26,6 +26,7 @@ put_ce-requires c = (
 
 pub returns : goal.returns
 returns c =
+    let lent = sym c.put_ce.ensures.same in
     let both = wrote (ce_within c.args.p) (sym c.within.ensures ∙ c.if-not-within.false)
-    (record { room = omega (arith, c.if-at-buf.false, c.if-ce_text_len-buf.false, measured (ce_within c.args.p) (ce_text c.args.p) _ (sym c.within.ensures ∙ c.if-not-within.false) c.ce_text_len.ensures) }) c.put_ce.ensures in
-    record { value = both.0; buf_after = both.1 }
+    (record { room = omega (arith, c.if-at-buf.false, c.if-ce_text_len-buf.false, measured (ce_within c.args.p) (ce_text c.args.p) _ (sym c.within.ensures ∙ c.if-not-within.false) c.ce_text_len.ensures) }) c.put_ce.ensures.put in
+    record { value = both.0; buf_after = search (rules, both.1) }

@@ -1,4 +1,4 @@
-use Rattle.std.proofs.Common.{◌+◌, ◌<◌, length, sym, ◌∙◌, arith}
+use Rattle.std.proofs.Common.{rules, ◌+◌, ◌<◌, length, sym, ◌∙◌, arith}
 use Rattle.packets.proofs.Writes.{wrote_bad, wrote_short, wrote}
 use Rattle.packets.specs.Packets.{pipeline_text, pipeline_within}
 use Rattle.packets.proofs.two_pc_pipeline.write_pipeline_packet.Goals.{then-at-buf-via-then-at-buf, then-at-buf-via-else-at-buf+then-pipeline_len-buf}
@@ -26,6 +26,7 @@ put_pipeline-requires c = (
 
 pub returns : goal.returns
 returns c =
+    let lent = sym c.put_pipeline.ensures.same in
     let both = wrote (pipeline_within c.args.p) (sym c.within.ensures ∙ c.if-not-within.false)
-    (record { room = omega (arith, c.if-at-buf.false, c.if-pipeline_len-buf.false, c.pipeline_len.ensures) }) c.put_pipeline.ensures in
-    record { value = both.0; buf_after = both.1 }
+    (record { room = omega (arith, c.if-at-buf.false, c.if-pipeline_len-buf.false, c.pipeline_len.ensures) }) c.put_pipeline.ensures.put in
+    record { value = both.0; buf_after = search (rules, both.1) }

@@ -1,6 +1,0 @@
-use Rattle.std.proofs.Common.{refl}
-use Rattle.packets.proofs.Slices.{mid_written}
-use Rattle.packets.proofs.put.put_all.Goals as goal
-
-pub returns : goal.returns
-returns c = record { next = refl; left = mid_written _ _ _ _ c.copy_from_slice.ensures.after }

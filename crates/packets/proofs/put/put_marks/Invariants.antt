@@ -1,9 +1,0 @@
-use Rattle.std.proofs.Common.{◌-◌}
-use Rattle.marks.specs.Marks.{marks_of}
-use Rattle.texts.specs.Put.{Due}
-use Rattle.texts.specs.Readers.{bool_text, items_text}
-use Rattle.packets.proofs.put.put_marks.Given as goal
-
-abbrev pub invariant-loop-done : goal.invariant-loop-done
-invariant-loop-done l =
-    Due l.initial.buf l.at (items_text bool_text (marks_of l.m l.n)) l.buf l.next (items_text bool_text (marks_of l.rest (l.n - l.done)))
