@@ -12,8 +12,8 @@ pub fn logged(g: TxLog) -> u64
     ensures { result ≡ logged_of g }
 {
     let mut m: u64 = 0;
-    for k in 0..clamp::at_most_64(g.len) {
-        m = sets::with_mark(m, g.entries[k].tx as usize);
+    for e in &g.entries[..clamp::at_most_64(g.len)] {
+        m = sets::with_mark(m, e.tx as usize);
     }
     m
 }
@@ -23,9 +23,9 @@ pub fn logged(g: TxLog) -> u64
 pub fn outcome(g: TxLog, t: usize) -> bool
     ensures { result ≡ outcome_of g t }
 {
-    for k in 0..clamp::at_most_64(g.len) {
-        if g.entries[k].tx as usize == t {
-            return g.entries[k].committed;
+    for e in &g.entries[..clamp::at_most_64(g.len)] {
+        if e.tx as usize == t {
+            return e.committed;
         }
     }
     false

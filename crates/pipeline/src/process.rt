@@ -201,8 +201,8 @@ pub fn shortest_log(states: [NodeTwoPcState; 64], n: usize) -> usize
     ensures { result ≡ shortest_log n states }
 {
     let mut shortest: usize = 64;
-    for i in 0..clamp::at_most_64(n) {
-        shortest = shortest.min(states[i].log.len);
+    for s in &states[..clamp::at_most_64(n)] {
+        shortest = shortest.min(s.log.len);
     }
     shortest
 }

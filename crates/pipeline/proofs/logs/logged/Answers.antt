@@ -1,9 +1,14 @@
 use Rattle.std.proofs.Common.{arith}
+use Rattle.std.proofs.lemmas.List.{get_or-take}
 use Rattle.loops.specs.Upto.{upto_turn}
 use Rattle.engines.proofs.Marking.{with_is}
-use Rattle.pipeline.specs.Pending.{logged_at}
+use Rattle.pipeline.specs.Pending.{no_entry, logged_at}
 use Rattle.pipeline.proofs.logs.logged.Goals as goal
 
-pub loop-k-preserved : goal.loop-k-preserved
+pub loop-e-preserved : goal.loop-e-preserved
 unfolding logged_at
-loop-k-preserved c = (omega arith, upto_turn _ _ c.loop-k.invariant.1 (with_is _ _ _ c.loop-k.invariant.0 (omega arith) c.with_mark-m.ensures))
+loop-e-preserved c = (
+  omega arith,
+  upto_turn _ _ c.loop-e.invariant.1
+      (rw (← get_or-take c.at_most_64.result c.args.g.entries c.loop-e.e-index no_entry (omega arith)) (with_is _ _ _ c.loop-e.invariant.0 (omega arith) c.with_mark-m.ensures)),
+)

@@ -3,5 +3,5 @@ use Rattle.loops.specs.Upto.{upto}
 use Rattle.pipeline.specs.Pending.{logged_at}
 use Rattle.pipeline.proofs.logs.logged.Given as goal
 
-abbrev pub invariant-loop-k : goal.invariant-loop-k
-invariant-loop-k l = (l.m < 2 ^ 64) × (l.m ≡ upto l.k (logged_at l.g.entries) 0)
+abbrev pub invariant-loop-e : goal.invariant-loop-e
+invariant-loop-e l = (l.m < 2 ^ 64) × (l.m ≡ upto l.e-index (logged_at l.fn.g.entries) 0)

@@ -3,5 +3,5 @@ use Rattle.pipeline.specs.Pending.{no_entry}
 use Rattle.pipeline.proofs.logs.outcome.Given as goal
 
 -- none of the entries so far is of this transaction
-abbrev pub invariant-loop-k : goal.invariant-loop-k
-invariant-loop-k l = (i : ℕ) → i < l.k → (get_or l.g.entries i no_entry).tx ≢ l.t
+abbrev pub invariant-loop-e : goal.invariant-loop-e
+invariant-loop-e l = (i : ℕ) → i < l.e-index → (get_or l.fn.g.entries i no_entry).tx ≢ l.fn.t
