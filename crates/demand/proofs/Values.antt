@@ -2,7 +2,7 @@
 -- within the limits, so its text is read back. Assumes nothing.
 use Prim.Native.Nat.{ℕ}
 use mathlib.Core.List.{List, []}
-use mathlib.Core.Path.{◌≡◌, refl, sym, ap, subst, ◌∙◌}
+use mathlib.Core.Path.{◌≡◌, refl, sym, ap, ◌∙◌}
 use lib.ListN.{length, get_or}
 use lib.Seq.{take-length}
 use native.Mathlib.Omega.{arith}
@@ -11,7 +11,8 @@ use Rattle.packets.specs.Packets.{ce_text, ValidCe}
 use Rattle.packets.specs.Reading.{ce_read_of, ce_read}
 use Rattle.packets.specs.declared.TwoPcPhase.{TwoPcPhase}
 use Rattle.packets.specs.declared.CeTwoPcPacket.{CeTwoPcPacket}
-use Rattle.packets.specs.declared.CeRead.{CeRead}
+use Rattle.std.specs.Prelude.{Result, Ok}
+use Rattle.limits.specs.declared.refusals.Refusal.{Refusal}
 use Rattle.merges.specs.declared.merging.Held.{Held}
 use Rattle.merges.specs.declared.merging.Held.TheVariants.{Empty, Unreadable, Packet}
 use Rattle.packets.proofs.Promises.{ce_promises}
@@ -29,54 +30,51 @@ unfolding ce_read
 read_whole s = rw (le-leb (length s) (length s) (omega arith), take-length s)
 
 -- no text at all is no packet
-no_packet : (ce_read_of []).refusal ≡ 0 → ⊥
+no_packet : (q : CeTwoPcPacket) → ce_read_of [] ≡ Ok q → ⊥
 unfolding ce_text
-no_packet h = let z : ◌≡◌ {A = ℕ} 0 123 = ap (λ (l : List ℕ). get_or l 0 0) (ce_promises.given [] h).0 in omega arith
+no_packet q h = let z : ◌≡◌ {A = ℕ} 0 123 = ap (λ (l : List ℕ). get_or l 0 0) (ce_promises.given [] q h).0 in omega arith
 
-abbrev read_of : CeTwoPcPacket → Held → CeRead
+abbrev read_of : CeTwoPcPacket → Held → Result CeTwoPcPacket Refusal
 read_of p h = ce_read (text_in p h) (length (text_in p h))
 
 -- what is no packet is refused
-only_packets : (p : CeTwoPcPacket) (h : Held) → (read_of p h).refusal ≡ 0 → h ≡ Packet
-only_packets p Empty e = absurd (no_packet (ap (λ (x : CeRead). x.refusal) (sym (read_whole [])) ∙ e))
-only_packets p Unreadable e = absurd (no_packet (ap (λ (x : CeRead). x.refusal) (sym (read_whole [])) ∙ e))
-only_packets p Packet e = refl
+only_packets : (p : CeTwoPcPacket) (h : Held) (q : CeTwoPcPacket) → read_of p h ≡ Ok q → h ≡ Packet
+only_packets p Empty q e = absurd (no_packet q (sym (read_whole []) ∙ e))
+only_packets p Unreadable q e = absurd (no_packet q (sym (read_whole []) ∙ e))
+only_packets p Packet q e = refl
 
 -- a packet within the limits is given back
-record Back (p : CeTwoPcPacket) (x : CeRead) : Type 0 where
-  accepted : x.refusal ≡ 0
-  packet : x.packet ≡ p
+read_back : (p : CeTwoPcPacket) (h : Held) → h ≡ Packet → ValidCe p → read_of p h ≡ Ok p
+read_back p h e v = rw (e, read_whole (ce_text p)) (ce_promises.back p v)
 
-read_back : (p : CeTwoPcPacket) (h : Held) → h ≡ Packet → ValidCe p → Back p (read_of p h)
-read_back p h e v =
-    let b = ce_promises.back p v in
-    subst (λ (k : Held). Back p (read_of p k)) (sym e) (subst (Back p) (sym (read_whole (ce_text p))) (record { accepted = b.0; packet = b.1 }))
+same_ok : {x y : CeTwoPcPacket} → ◌≡◌ {A = Result CeTwoPcPacket Refusal} (Ok x) (Ok y) → x ≡ y
+same_ok e = cc
 
 -- ---- a moment of a room
 
 module _ (r : Room) (i : Inv r) where
-  held_back : (v : ℕ) → (held_at r v).held ≡ Packet → Back (held_at r v).packet (read_of (held_at r v).packet (held_at r v).held)
+  held_back : (v : ℕ) → (held_at r v).held ≡ Packet → read_of (held_at r v).packet (held_at r v).held ≡ Ok (held_at r v).packet
   held_back v e = read_back (held_at r v).packet (held_at r v).held e ((i.held v).valid e)
 
   pub value_held : (v t : ℕ) (f : TwoPcPhase) → HoldsPhase r v t f → HoldsValue r v t f
   value_held v t f g =
-      let e = only_packets (held_at r v).packet (held_at r v).held g.accepted in
-      let b = held_back v e in
+      let e = only_packets (held_at r v).packet (held_at r v).held g.packet g.accepted in
+      let same : (held_at r v).packet ≡ g.packet = same_ok (sym (held_back v e) ∙ g.accepted) in
       record {
         kind = g.kind;
         position = g.position;
         held = e;
-        term = ap (λ (p : CeTwoPcPacket). p.term) (sym b.packet) ∙ g.term;
-        phase = ap (λ (p : CeTwoPcPacket). p.phase) (sym b.packet) ∙ g.phase;
+        term = ap (λ (p : CeTwoPcPacket). p.term) same ∙ g.term;
+        phase = ap (λ (p : CeTwoPcPacket). p.phase) same ∙ g.phase;
       }
 
   pub text_held : (v t : ℕ) (f : TwoPcPhase) → HoldsValue r v t f → HoldsPhase r v t f
   text_held v t f h =
-      let b = held_back v h.held in
       record {
         kind = h.kind;
         position = h.position;
-        accepted = b.accepted;
-        term = ap (λ (p : CeTwoPcPacket). p.term) b.packet ∙ h.term;
-        phase = ap (λ (p : CeTwoPcPacket). p.phase) b.packet ∙ h.phase;
+        packet = (held_at r v).packet;
+        accepted = held_back v h.held;
+        term = h.term;
+        phase = h.phase;
       }

@@ -1,12 +1,12 @@
 -- RULES 11.9. Demand 3: one statement over lists of a room's calls. Assumes nothing: it is proved in
 -- proofs/Demand.antt.
-use Rattle.std.specs.Prelude.{◌≡◌, ℕ, ◌*◌, ◌<◌, ◌^◌, length, get_or, take}
+use Rattle.std.specs.Prelude.{◌≡◌, Result, Ok, ℕ, ◌*◌, ◌<◌, ◌^◌, length, get_or, take}
 use mathlib.Core.List.{List, [], Memᴰ}
 use Rattle.merges.specs.Sound.{AllYes, SomeNo}
 use Rattle.packets.specs.declared.TwoPcPhase.{TwoPcPhase}
 use Rattle.packets.specs.declared.TwoPcPhase.TheVariants.{Committed, Aborted}
 use Rattle.packets.specs.declared.CeTwoPcPacket.{CeTwoPcPacket}
-use Rattle.packets.specs.declared.CeRead.{CeRead}
+use Rattle.limits.specs.declared.refusals.Refusal.{Refusal}
 use Rattle.packets.specs.Packets.{ce_text}
 use Rattle.packets.specs.Reading.{ce_read}
 use Rattle.merges.specs.declared.merging.Held.{Held}
@@ -42,7 +42,7 @@ abbrev pub held_text : Room → ℕ → List ℕ
 held_text r v = text_in (held_at r v).packet (held_at r v).held
 
 -- what the reader of packets makes of the whole of it
-abbrev pub held_read : Room → ℕ → CeRead
+abbrev pub held_read : Room → ℕ → Result CeTwoPcPacket Refusal
 held_read r v = ce_read (held_text r v) (length (held_text r v))
 
 -- Position v holds phase f for term t: its text is accepted by the reader of packets, and gives both. An empty text is
@@ -50,9 +50,10 @@ held_read r v = ce_read (held_text r v) (length (held_text r v))
 pub record HoldsPhase (r : Room) (v t : ℕ) (f : TwoPcPhase) : Type 0 where
   pub kind : r.conf.kind ≡ kinds.Capture
   pub position : v < size_of r
-  pub accepted : (held_read r v).refusal ≡ 0
-  pub term : (held_read r v).packet.term ≡ t
-  pub phase : (held_read r v).packet.phase ≡ f
+  pub packet : CeTwoPcPacket
+  pub accepted : held_read r v ≡ Ok packet
+  pub term : packet.term ≡ t
+  pub phase : packet.phase ≡ f
 
 -- all votes of the room's positions for term t are yes; one or more are no
 abbrev pub AllVoteYes : Room → ℕ → Type 0
