@@ -12,8 +12,8 @@ use Rattle.marks.specs.Marks.{marks, any_of, all_of, count_of, marks_of}
 use Rattle.texts.specs.Decimal.{decimal, decimal_f}
 use Rattle.texts.specs.Put.{written}
 use Rattle.texts.specs.Readers.{list_text, items_text}
-use Rattle.graph.specs.Links.{graph_by, built_of, next_rule, mesh_rule, ahead_of, link_of, topology_of, inside, rows_of, size_test, all_inside, graph_test}
-use Rattle.graph.specs.Paths.{diameter_of, length_of}
+use Rattle.graph.specs.Links.{graph_by, next_rule, mesh_rule, ahead_of, link_of, topology_of, inside, rows_of, size_test, all_inside, graph_test}
+use Rattle.graph.specs.Paths.{diameter_of}
 use Rattle.packets.specs.Packets.{ce_text, bitmap_text, data_text, limits, pipeline_text, proposal_data}
 use Rattle.merges.specs.Merging.{payload_of, filled_of, marked_of, only_of, join_of, join_news, unanimous_of, rank_of, ensure_of, decided_of, acknowledged_of, voiced_of, settled_of, adopted_of, raised_of, own_of, same_term_of, outdated, heard_of, merged_by, merge_of, proposal_of, standing_by, goal_of, can_sleep_of, all_hold, any_holds, network_goal_of, outcome_of}
 use Rattle.merges.specs.Votes.{no_of, hash_of, share_of}
@@ -37,7 +37,6 @@ use Rattle.room.specs.Capturing.{propose_refusal, proposed_in, propose_part, rai
 use Rattle.room.specs.Pipelining.{pipeline_refusal, pipeline_part}
 use Rattle.room.specs.Rooms.{open_refusal, round_length, new_room, open_of, propose_of, capture_of, pipeline_of}
 use Rattle.room.specs.Slots.{stages_from, capture_slots, pipeline_slots}
-use Rattle.readings.specs.Readings.{outcome_read}
 use Rattle.demand.specs.Cases.{MinusZero, One, MarkedCases}
 use Rattle.demand.proofs.Resting.{alone_proposes, alone_ends}
 use Rattle.demand.proofs.Still.{capture_none, pipeline_none, no_slots}
@@ -63,7 +62,7 @@ one a l e = rw (l, e, one_not)
 -- ---- the table
 
 pub marked_cases : MarkedCases
-unfolding upto downto go tell tabulate filled marks any_of all_of count_of marks_of decimal decimal_f written list_text items_text graph_by next_rule mesh_rule ahead_of link_of topology_of inside rows_of ce_text bitmap_text data_text limits no_of hash_of share_of filled_of marked_of only_of join_of join_news unanimous_of rank_of ensure_of decided_of acknowledged_of voiced_of settled_of adopted_of raised_of own_of same_term_of outdated heard_of merged_by merge_of proposal_data proposal_of standing_by goal_of can_sleep_of all_hold any_holds network_goal_of outcome_of loss_accepted is_lossy over_marks with_mark next_of unit_of coin_of lost_of pick_of swap_step shuffled ticked tick_at ticked_all listens floods sleeps sets_of highest_progress row_of is_due next_row timed_out tossed1 coins_of note_at senders_of examine1 first_kept heard_from heardOfPlan whom tallied capture_at targets_of captures_of plan_after plan_of started started_all next_state turned turn_of turned_all counted_slot payload_len on_air sent_at sent_of hearing_of told_at told_all begun goal_met acted finished slot_of slot_row due_row ticking start_of after_round refusal_of answer_of open_refusal round_length new_room open_of propose_refusal proposed_in propose_part propose_of raised raised_all network_after capture_refusal captured_by capture_part capture_of stages_from capture_slots of_bits of_fields eq lt le div of_int round units odd span climb size reset_round rows_refused framed hear_at hearers_of send_at flood_plan after_flood after_listen next_node turn_at floodTurned nobody_floods sent_after flood_slot reset_at reset_all flood_start flood_round flood_rows join_marks common_marks without_mark logged_at logged_of outcome_at loggedOutcome pushed finalize_tx allVoted open_tx votes_at merge_votes merge_abort gap_at gap_of nack_of vote_of is_judged judge_at judged fast_of abort_all own_vote data_of packet_of same_packet record_tx is_fresh begin_tx record_due record_judged abort_of known_votes round_packet prepare_round is_new hear_new merge_round record_aborts take_up is_answer answer_nack process_one parts_of process_at process_all shorter_at shortest_log progress_at progress_all stops_at deliver_all is_covered cover_at covered_of initiator_of preparing bytes_of flood_from close_round flood_of run_round new_part new_network processing pipeline_text diameter_of flood_length early_refusal long_refusal size_test all_inside graph_test with_frames late_of late_refusal round_refusal rows_of_round round_answer pipeline_refusal pipeline_part pipeline_of pipeline_slots payload_of outcome_read
+unfolding upto downto go tell tabulate filled marks any_of all_of count_of marks_of decimal decimal_f written list_text items_text graph_by next_rule mesh_rule ahead_of link_of topology_of inside rows_of ce_text bitmap_text data_text limits no_of hash_of share_of filled_of marked_of only_of join_of join_news unanimous_of rank_of ensure_of decided_of acknowledged_of voiced_of settled_of adopted_of raised_of own_of same_term_of outdated heard_of merged_by merge_of proposal_data proposal_of standing_by goal_of can_sleep_of all_hold any_holds network_goal_of outcome_of loss_accepted is_lossy over_marks with_mark next_of unit_of coin_of lost_of pick_of swap_step shuffled ticked tick_at ticked_all listens floods sleeps sets_of highest_progress row_of is_due next_row timed_out tossed1 coins_of note_at senders_of examine1 first_kept heard_from heardOfPlan whom tallied capture_at targets_of captures_of plan_after plan_of started started_all next_state turned turn_of turned_all counted_slot payload_len on_air sent_at sent_of hearing_of told_at told_all begun goal_met acted finished slot_of slot_row due_row ticking start_of after_round refusal_of answer_of open_refusal round_length new_room open_of propose_refusal proposed_in propose_part propose_of raised raised_all network_after capture_refusal captured_by capture_part capture_of stages_from capture_slots of_bits of_fields eq lt le div of_int round units odd span climb size reset_round rows_refused framed hear_at hearers_of send_at flood_plan after_flood after_listen next_node turn_at floodTurned nobody_floods sent_after flood_slot reset_at reset_all flood_start flood_round flood_rows join_marks common_marks without_mark logged_at logged_of outcome_at loggedOutcome pushed finalize_tx allVoted open_tx votes_at merge_votes merge_abort gap_at gap_of nack_of vote_of is_judged judge_at judged fast_of abort_all own_vote data_of packet_of same_packet record_tx is_fresh begin_tx record_due record_judged abort_of known_votes round_packet prepare_round is_new hear_new merge_round record_aborts take_up is_answer answer_nack process_one parts_of process_at process_all shorter_at shortest_log progress_at progress_all stops_at deliver_all is_covered cover_at covered_of initiator_of preparing bytes_of flood_from close_round flood_of run_round new_part new_network processing pipeline_text diameter_of flood_length early_refusal long_refusal size_test all_inside graph_test with_frames late_of late_refusal round_refusal rows_of_round round_answer pipeline_refusal pipeline_part pipeline_of pipeline_slots payload_of
 marked_cases =
     record {
       capture_line = record {

@@ -10,11 +10,12 @@ use lib.Dec.{eqb}
 use lib.ListN.{length, get_or, take, drop}
 use lib.Seq.{take_at}
 use native.Mathlib.Omega.{arith}
-use borrow.Author.Tests.{eq-eqb, eqb-true, lt-ltb, le-leb}
+use borrow.Author.Tests.{eq-eqb, eqb-true, le-leb}
 use Rattle.loops.specs.Pick.{either}
 use Rattle.marks.specs.Sets.{and_true, true_and}
 use Rattle.texts.specs.Put.{written}
-use Rattle.graph.specs.Links.{size_test, position_test, position_refusal}
+use Rattle.std.specs.Prelude.{Result, Ok}
+use Rattle.limits.specs.declared.refusals.Refusal.{Refusal}
 use Rattle.packets.specs.Packets.{pipeline_text, limits, pipeline_within, ValidPipeline}
 use Rattle.packets.specs.Writing.{wrote_of, left_of}
 use Rattle.packets.specs.declared.TwoPcPacket.{TwoPcPacket}
@@ -29,8 +30,8 @@ use Rattle.room.specs.Rooms.{size_of, open_of, capture_of, pipeline_of}
 use Rattle.room.specs.Slots.{capture_slots, pipeline_slots}
 use Rattle.room.proofs.Validity.{ValidRoom, HeldValid, opened_valid, propose_valid, capture_valid, pipeline_valid}
 use Rattle.room.proofs.Validity.{capture_slots_lem, pipeline_slots_lem, pipeline_covers}
-use Rattle.readings.specs.declared.readings.TextReading.{TextReading}
 use Rattle.readings.specs.Readings.{pipe_answer_of, pipe_left, text_by, text_of, left_by, text_left}
+use Rattle.readings.proofs.Answers.{place_held}
 use Rattle.demand.specs.Calls.{Call, Propose, CaptureRound, PipelineRound, Read, handed, ticks, after, moments}
 use Rattle.demand.specs.Covered.{holds_one, bytes_at, ValidTexts, HeldAreValid, equal_bytes, TestsBytes}
 use Rattle.demand.specs.Covered.{same_bytes, CoveredByBytes}
@@ -106,9 +107,9 @@ moments_valid (c ∷ cs) r i x h =
 
 -- ---- the text that a reading writes
 
-record Written (s : List ℕ) (x : TextReading) (out : List ℕ) : Type 0 where
-  answers : x.refusal ≡ 0
-  text : take x.len out ≡ s
+record Written (s : List ℕ) (x : Result ℕ Refusal) (out : List ℕ) : Type 0 where
+  answers : x ≡ Ok (length s)
+  text : take (length s) out ≡ s
 
 within : (p : TwoPcPacket) → ValidPipeline p → pipeline_within p ≡ true
 unfolding limits
@@ -122,12 +123,9 @@ unfolding pipe_answer_of pipe_left wrote_of left_of written
 written_by n false q out v l = record { answers = refl; text = refl }
 written_by n true q out v l =
     let t = pipeline_text (packet_of n q) in
+    let none : 0 + length t ≡ length t = omega arith in
     rw (within (packet_of n q) v, le-leb (0 + length t) (length out) (omega (arith, pipeline_promises.short _ v)))
-    (record { answers = refl; text = take_at t (drop (0 + length t) out) (0 + length t) (omega arith) })
-
-there : (n v : ℕ) → v < n → n ≤ 64 → position_refusal n v ≡ 0
-unfolding position_test size_test
-there n v h l = rw (lt-ltb 0 n (omega arith), le-leb n 64 l, lt-ltb v n h)
+    (record { answers = cc; text = take_at t (drop (0 + length t) out) (length t) (omega arith) })
 
 module _ (r : Room) (held : HeldValid r) where
   size : size_of r ≤ 64
@@ -136,15 +134,13 @@ module _ (r : Room) (held : HeldValid r) where
 
   written_in : (v : ℕ) (out : List ℕ) (x : RoomKind) → x ≡ kinds.Pipeline → 758 ≤ length out
       → Written (bytes_at r v) (text_by r v out x) (left_by r v out x)
-  unfolding text_by left_by
   written_in v out x e l =
       subst (λ (y : RoomKind). Written (bytes_at r v) (text_by r v out y) (left_by r v out y)) (sym e)
       (written_by (size_of r) (holds_one r v) (get_or r.pipeline.payloads v no_packet) out (held v) l)
 
   text_written : (v : ℕ) (out : List ℕ) → r.conf.kind ≡ kinds.Pipeline → v < size_of r → 758 ≤ length out
       → Written (bytes_at r v) (text_of r v out) (text_left r v out)
-  unfolding text_of text_left
-  text_written v out k h l = rw (there (size_of r) v h size) (written_in v out r.conf.kind k l)
+  text_written v out k h l = rw (place_held (size_of r) v h size) (written_in v out r.conf.kind k l)
 
   valid_texts : ValidTexts r
   valid_texts =

@@ -1,25 +1,25 @@
 -- What the outcome of a proposal tells: each packet held is of the room's term, and demand 3 says the rest. Assumes
 -- nothing.
 use Prim.Native.Nat.{ℕ, ◌≤◌, ◌<◌}
-use mathlib.Core.Bool.{Bool, true, false}
 use mathlib.Core.Path.{◌≡◌, refl, sym, ap, subst, ◌∙◌}
-use lib.Dec.{eqb, ltb, leb}
-use borrow.Author.Tests.{ltb-true, leb-true, lt-ltb, le-leb, eqb-true, eqb-false}
+use lib.Dec.{eqb}
+use borrow.Author.Tests.{lt-ltb, le-leb, eqb-true, eqb-false}
 use native.Mathlib.Omega.{arith}
-use Rattle.loops.specs.Pick.{either}
-use Rattle.limits.specs.Refusals.{bad_positions}
-use Rattle.marks.specs.Sets.{and_true}
-use Rattle.graph.specs.Links.{is_size}
+use Rattle.std.specs.Prelude.{Result, Ok}
+use Rattle.std.specs.Result.{result_and}
+use Rattle.limits.specs.declared.refusals.Refusal.{Refusal}
+use Rattle.limits.proofs.Tests.{no_err, first_held, second_held}
+use Rattle.graph.specs.Links.{size_test}
+use Rattle.graph.proofs.Rules.{size_parts}
 use Rattle.packets.specs.declared.TwoPcPhase.{TwoPcPhase}
 use Rattle.packets.specs.declared.TwoPcPhase.TheVariants as phases
 use Rattle.merges.specs.Sound.{AllYes, SomeNo}
 use Rattle.merges.specs.Merging.{outcome_of}
 use Rattle.merges.specs.Outcomes.{InPhase, OutcomeSays}
 use Rattle.merges.specs.declared.merging.ProposalOutcome.{ProposalOutcome}
-use Rattle.merges.specs.declared.merging.ProposalOutcome.TheVariants.{Committed, Aborted, TimedOut}
+use Rattle.merges.specs.declared.merging.ProposalOutcome.TheVariants.{Committed, Aborted}
 use Rattle.merges.proofs.Safety.{either_cases}
 use Rattle.merges.proofs.Outcomes.{outcomes_say}
-use Rattle.engines.specs.Network.{or_else}
 use Rattle.room.specs.declared.room.RoomKind.{RoomKind}
 use Rattle.room.specs.declared.room.RoomKind.TheVariants as kinds
 use Rattle.room.specs.declared.room.RoomConf.{RoomConf}
@@ -29,7 +29,6 @@ use Rattle.room.specs.Capturing.{noes_of}
 use Rattle.room.specs.declared.room.Asked.{Asked}
 use Rattle.room.specs.declared.room.Opening.{Opening}
 use Rattle.room.specs.Rooms.{size_of, held_at, open_refusal, new_room, open_of}
-use Rattle.readings.specs.declared.readings.OutcomeReading.{OutcomeReading}
 use Rattle.readings.specs.Readings.{capture_only, outcome_read}
 use Rattle.demand.specs.Demand.{HoldsPhase}
 use Rattle.demand.specs.Texts.{HoldsValue}
@@ -47,31 +46,28 @@ record Reads (r : Room) (f : ProposalOutcome) : Type 0 where
   most : size_of r ≤ 64
   outcome : outcome_of (size_of r) r.capture.held ≡ f
 
-reads : (r : Room) (f : ProposalOutcome) → outcome_read r ≡ record { refusal = 0; outcome = f } → Reads r f
-unfolding outcome_read
-reads r f e = go (is_size (size_of r)) refl r.conf.kind refl e
-  where
-    answer : Bool → RoomKind → OutcomeReading
-    answer s k =
-        let j = or_else (either s 0 bad_positions) (capture_only k) in
-        either (eqb j 0) (record { refusal = 0; outcome = outcome_of (size_of r) r.capture.held }) (record { refusal = j; outcome = TimedOut })
+capture_kind : (k : RoomKind) → capture_only k ≡ Ok tt → k ≡ kinds.Capture
+capture_kind kinds.Capture e = refl
+capture_kind kinds.Pipeline e = no_err e
 
-    go : (s : Bool) → is_size (size_of r) ≡ s → (k : RoomKind) → r.conf.kind ≡ k → answer s k ≡ record { refusal = 0; outcome = f } → Reads r f
-    go true p kinds.Capture q w =
-        let z = and_true (ltb 0 (size_of r)) (leb (size_of r) 64) p in
-        record {
-          kind = q;
-          some = ltb-true 0 (size_of r) z.0;
-          most = leb-true (size_of r) 64 z.1;
-          outcome = ap (λ (x : OutcomeReading). x.outcome) w;
-        }
-    go true p kinds.Pipeline q w = absurd (let z : ◌≡◌ {A = ℕ} 11 0 = ap (λ (x : OutcomeReading). x.refusal) w in omega arith)
-    go false p k q w = absurd (let z : ◌≡◌ {A = ℕ} 2 0 = ap (λ (x : OutcomeReading). x.refusal) w in omega arith)
+reads : (r : Room) (f : ProposalOutcome) → outcome_read r ≡ Ok f → Reads r f
+reads r f e =
+    let told : Result ProposalOutcome Refusal = Ok (outcome_of (size_of r) r.capture.held) in
+    let rest = result_and (capture_only r.conf.kind) told in
+    let size = size_parts (size_of r) (first_held (size_test (size_of r)) rest f e) in
+    let second = second_held (size_test (size_of r)) rest f e in
+    let same = second_held (capture_only r.conf.kind) told f second in
+    record {
+      kind = capture_kind r.conf.kind (first_held (capture_only r.conf.kind) told f second);
+      some = size.0;
+      most = size.1;
+      outcome = cc;
+    }
 
 -- and a capture room of 1 to 64 positions has one
 reads_back : (r : Room) → r.conf.kind ≡ kinds.Capture → 0 < size_of r → size_of r ≤ 64
-    → outcome_read r ≡ record { refusal = 0; outcome = outcome_of (size_of r) r.capture.held }
-unfolding outcome_read
+    → outcome_read r ≡ Ok (outcome_of (size_of r) r.capture.held)
+unfolding size_test
 reads_back r k h g = rw (lt-ltb 0 (size_of r) h, le-leb (size_of r) 64 g, k)
 
 -- ---- one moment

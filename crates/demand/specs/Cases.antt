@@ -1,6 +1,6 @@
 -- The marked cases of RULES 11.12, 8.10 and 9.7, as one table over the rules that the contracts of the room and of the
 -- layers below cite. Assumes nothing: these are statements, proved in one go in proofs/Cases.antt.
-use Rattle.std.specs.Prelude.{ℕ, ◌+◌, ◌*◌, ◌≤◌, ◌<◌, Bool, true, false, ◌&&◌, List, [], ◌∷◌, map, ◌≡◌, eqb, length, get_or, Float}
+use Rattle.std.specs.Prelude.{ℕ, ◌+◌, ◌*◌, ◌≤◌, ◌<◌, Bool, true, false, ◌&&◌, List, [], ◌∷◌, map, ◌≡◌, eqb, length, get_or, Float, Ok}
 use Rattle.std.specs.Float.{binary64}
 use Rattle.std.specs.Float.Ieee.{of_bits, lt}
 use Rattle.limits.specs.Limits.{last_slot, last_term}
@@ -108,8 +108,8 @@ pub record DeadlineMet : Type 0 where
   pub proposer : (held_at cut.room 0).packet.phase ≡ Prepare
   pub hearer : (held_at cut.room 1).packet.phase ≡ Committed
   -- the outcome that is read out: before anybody proposed, and when the slots have run out
-  pub before : outcome_read short_room.room ≡ record { refusal = 0; outcome = outcome.TimedOut }
-  pub outcome : outcome_read cut.room ≡ record { refusal = 0; outcome = outcome.TimedOut }
+  pub before : outcome_read short_room.room ≡ Ok outcome.TimedOut
+  pub outcome : outcome_read cut.room ≡ Ok outcome.TimedOut
 
 -- Two positions of which 0 hears 1 and nobody hears 0, timeout 1, rounds of 3 slots, and the coins no, yes, no:
 -- position 1, which holds nothing, recovers in the second slot and floods in the third.

@@ -1,7 +1,7 @@
 -- RULES 10.4 and 10.10: sleepers get what the initiator holds, and covered is counted by
 -- bytes, whatever the calls. For that, what the positions of a pipeline room hold are packets that a text stands for.
 -- Assumes nothing: these are definitions and statements. They are proved in proofs/Covered.antt.
-use Rattle.std.specs.Prelude.{Bool, true, false, ◌&&◌, ◌≡◌, ℕ, ◌+◌, ◌%◌, ◌^◌, ◌≤◌, ◌<◌, eqb, length, get_or, take}
+use Rattle.std.specs.Prelude.{Bool, true, false, ◌&&◌, ◌≡◌, ℕ, ◌+◌, ◌%◌, ◌^◌, ◌≤◌, ◌<◌, eqb, length, get_or, take, Ok}
 use mathlib.Core.List.{List, [], ◌∷◌, Memᴰ}
 use Rattle.loops.specs.Pick.{either}
 use Rattle.marks.specs.Marks.{has, marks, count_of}
@@ -34,13 +34,13 @@ bytes_at r v = either (holds_one r v) (pipeline_text (packet_at r v)) []
 
 -- Each packet held is one that a text stands for: within the limits, and its numbers fit. So different ones have
 -- different bytes. The last two are of the reading of a position's text: where the longest text has room, it answers
--- with no refusal, and what it writes are the bytes meant here.
+-- with how many bytes are meant here, and writes them.
 pub record ValidTexts (r : Room) : Type 0 where
   pub valid : (v : ℕ) → holds_one r v ≡ true → ValidPipeline (packet_at r v)
   pub answers : (v : ℕ) (out : List ℕ) → r.conf.kind ≡ kinds.Pipeline → v < size_of r → 758 ≤ length out
-      → (text_of r v out).refusal ≡ 0
+      → text_of r v out ≡ Ok (length (bytes_at r v))
   pub writes : (v : ℕ) (out : List ℕ) → r.conf.kind ≡ kinds.Pipeline → v < size_of r → 758 ≤ length out
-      → take (text_of r v out).len (text_left r v out) ≡ bytes_at r v
+      → take (length (bytes_at r v)) (text_left r v out) ≡ bytes_at r v
 
 -- For every accepted opening, every list of calls and every moment of it.
 abbrev pub HeldAreValid : Type 0

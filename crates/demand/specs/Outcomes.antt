@@ -1,6 +1,6 @@
 -- RULES 11.14. What the outcome of a proposal tells, over lists of a room's calls. Assumes nothing: these are
 -- statements. They are proved in proofs/Outcomes.antt.
-use Rattle.std.specs.Prelude.{◌≡◌, ℕ, ◌<◌, ◌^◌}
+use Rattle.std.specs.Prelude.{◌≡◌, ℕ, ◌<◌, ◌^◌, Ok}
 use mathlib.Core.List.{List, Memᴰ}
 use Rattle.packets.specs.declared.TwoPcPhase.TheVariants as phases
 use Rattle.merges.specs.declared.merging.ProposalOutcome.{ProposalOutcome}
@@ -15,7 +15,7 @@ use Rattle.demand.specs.Demand.{HoldsPhase}
 
 -- the reading of a capture room's outcome answers f, and the room's present term is t
 pub record HasOutcome (r : Room) (t : ℕ) (f : ProposalOutcome) : Type 0 where
-  pub reading : outcome_read r ≡ record { refusal = 0; outcome = f }
+  pub reading : outcome_read r ≡ Ok f
   pub term : r.capture.term ≡ t
 
 -- a is any moment and b the end of the list. Who holds what is told by the texts, as in demand 3.

@@ -1,6 +1,6 @@
 -- RULES 11.9. What demand 3 says by texts, in two other ways: by what the room holds, and by what a reading hands out.
 -- Assumes nothing: these are statements. They are proved in proofs/Texts.antt.
-use Rattle.std.specs.Prelude.{◌≡◌, ℕ, ◌≤◌, ◌<◌, ◌^◌, length, take}
+use Rattle.std.specs.Prelude.{◌≡◌, ℕ, ◌≤◌, ◌<◌, ◌^◌, length, take, Ok}
 use mathlib.Core.List.{List, Memᴰ}
 use Rattle.packets.specs.declared.TwoPcPhase.{TwoPcPhase}
 use Rattle.merges.specs.declared.merging.Held.TheVariants.{Packet}
@@ -21,15 +21,15 @@ pub record HoldsValue (r : Room) (v t : ℕ) (f : TwoPcPhase) : Type 0 where
   pub phase : (held_at r v).packet.phase ≡ f
 
 -- A position holds a phase for a term, by its text, exactly if the packet that it holds has both. The last two are of
--- the reading of a position's text: where the longest text has room, it answers with no refusal, and what it writes is
--- the text that demand 3 means.
+-- the reading of a position's text: where the longest text has room, it answers with the length of the text that demand
+-- 3 means, and writes that text.
 pub record SameTexts (r : Room) : Type 0 where
   pub value : (v t : ℕ) (f : TwoPcPhase) → HoldsPhase r v t f → HoldsValue r v t f
   pub text : (v t : ℕ) (f : TwoPcPhase) → HoldsValue r v t f → HoldsPhase r v t f
   pub answers : (v : ℕ) (out : List ℕ) → r.conf.kind ≡ kinds.Capture → v < size_of r → 596 ≤ length out
-      → (text_of r v out).refusal ≡ 0
+      → text_of r v out ≡ Ok (length (held_text r v))
   pub writes : (v : ℕ) (out : List ℕ) → r.conf.kind ≡ kinds.Capture → v < size_of r → 596 ≤ length out
-      → take (text_of r v out).len (text_left r v out) ≡ held_text r v
+      → take (length (held_text r v)) (text_left r v out) ≡ held_text r v
 
 -- For every accepted opening, every list of calls and every moment of it.
 abbrev pub TextsGive : Type 0

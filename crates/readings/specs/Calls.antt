@@ -1,19 +1,18 @@
 -- RULES 12. The readings of a room as one list: one for each function of src/readings.rt that is open to others, under
 -- its name and with its arguments, and its answer, by the rule that the function's contract cites. A reading changes
 -- no room. Assumes nothing: these are definitions.
-use Rattle.std.specs.Prelude.{ℕ, List, Option, Float}
+use Rattle.std.specs.Prelude.{ℕ, List, Option, Result, Float}
+use Rattle.limits.specs.declared.refusals.Refusal.{Refusal}
+use Rattle.merges.specs.declared.merging.ProposalOutcome.{ProposalOutcome}
 use Rattle.engines.specs.Metrics.{link_pdr_of, flood_coverage_of}
 use Rattle.engines.specs.declared.metrics.MetricsCollector.{MetricsCollector}
+use Rattle.engines.specs.declared.node.Node.{Node}
 use Rattle.engines.specs.declared.settings.Settings.{Settings}
+use Rattle.pipeline.specs.declared.two_pc_pipeline.LogEntry.{LogEntry}
 use Rattle.room.specs.declared.room.Room.{Room}
 use Rattle.room.specs.declared.room.RoomKind.{RoomKind}
-use Rattle.readings.specs.declared.readings.NumberReading.{NumberReading}
-use Rattle.readings.specs.declared.readings.NodeReading.{NodeReading}
-use Rattle.readings.specs.declared.readings.TextReading.{TextReading}
-use Rattle.readings.specs.declared.readings.EntryReading.{EntryReading}
 use Rattle.readings.specs.declared.readings.PendingReading.{PendingReading}
 use Rattle.readings.specs.declared.readings.RecordReading.{RecordReading}
-use Rattle.readings.specs.declared.readings.OutcomeReading.{OutcomeReading}
 use Rattle.readings.specs.Readings.{term_of, round_of, stopped_of, initiator_now, outcome_read, node_of, log_len_of, log_entry_of, pending_of, record_of, text_of, text_left}
 
 pub data Reading : Type 0 where
@@ -26,20 +25,21 @@ pub data Reading : Type 0 where
   pending : (position transaction : ℕ) → Reading
   «record» : (place : ℕ) → Reading
 
--- A value, or a value beside its refusal. A text also leaves something in the buffer that was lent for it.
+-- A value, or the refusal in its place. A text, of which the length is answered, also leaves something in the buffer
+-- that was lent for it.
 pub data Answer : Type 0 where
   a_kind : RoomKind → Answer
   the_settings : Settings → Answer
   a_number : ℕ → Answer
   the_metrics : MetricsCollector → Answer
   a_ratio : Option Float → Answer
-  maybe_number : NumberReading → Answer
-  an_outcome : OutcomeReading → Answer
-  a_node : NodeReading → Answer
-  a_text : TextReading → (left : List ℕ) → Answer
-  an_entry : EntryReading → Answer
-  a_pending : PendingReading → Answer
-  a_record : RecordReading → Answer
+  maybe_number : Result ℕ Refusal → Answer
+  an_outcome : Result ProposalOutcome Refusal → Answer
+  a_node : Result Node Refusal → Answer
+  a_text : Result ℕ Refusal → (left : List ℕ) → Answer
+  an_entry : Result (Option LogEntry) Refusal → Answer
+  a_pending : Result PendingReading Refusal → Answer
+  a_record : Result RecordReading Refusal → Answer
 
 unfoldable pub answer_of : Reading → Room → Answer
 answer_of kind r = a_kind r.conf.kind

@@ -6,7 +6,7 @@ use mathlib.Core.Path.{◌≡◌, refl, sym, ap, ◌∙◌}
 use Prim.Native.Nat.{ℕ, zero, suc, ◌+◌, ◌*◌, ◌/◌, ◌<◌, ◌≤◌}
 use native.Mathlib.Nat.{add-zero}
 use native.Mathlib.Omega.{arith}
-use lib.Dec.{eqb, ltb}
+use lib.Dec.{ltb}
 use lib.Ieee.{Float}
 use lib.ListN.{length, get_or}
 use lib.Seq.{sets}
@@ -16,7 +16,11 @@ use Rattle.packets.specs.declared.Data.{Data}
 use Rattle.pipeline.specs.Pipeline.{data_of}
 use Rattle.room.specs.declared.room.Room.{Room}
 use Rattle.engines.specs.Metrics.{link_pdr_of, flood_coverage_of}
-use Rattle.std.specs.Prelude.{Option as Maybe, None, Some}
+use Rattle.std.specs.Prelude.{Ok, Err}
+use Rattle.std.specs.Prelude as std
+use Rattle.std.specs.Result.{result_and, result_unwrap_or}
+use Rattle.limits.specs.Refusals.{Tested}
+use Rattle.pipeline.specs.declared.two_pc_pipeline.LogEntry.{LogEntry}
 use Rattle.readings.specs.Calls.{
   Reading,
   kind,
@@ -42,10 +46,11 @@ use Rattle.readings.specs.Calls.{
   a_ratio,
   answer_of,
 }
-use Rattle.readings.specs.Readings.{of_pipeline, pending_in, pending_of}
+use Rattle.readings.specs.Readings.{of_pipeline, state_at, log_entry_of, pending_in, pending_of, record_of}
 use Rattle.readings.specs.declared.readings.PendingReading.{PendingReading}
+use Rattle.readings.specs.declared.readings.RecordReading.{RecordReading}
 use Rattle.demand.specs.Calls.{Call, Propose, CaptureRound, PipelineRound, Read, handed, after}
-use Rattle.room_c.specs.Answers.{Said, plain, said, told_in}
+use Rattle.room_c.specs.Answers.{entry_numbers, record_numbers, nothing_held, no_record, Said, plain, said, told_in}
 use Rattle.room_c.specs.Console.{numbers_each, floats_each, Calling, call_at, call_said, called, turn, play_first, play}
 use Rattle.room_c.specs.Calls.{call_in, listed, calls_in, room_in, said_in, PlayedByCalls}
 use Rattle.room_c.proofs.Putting.{put_stays}
@@ -80,11 +85,27 @@ data_full : (fresh : Bool) (t : ℕ) → Full (data_of fresh t)
 unfolding data_of
 data_full fresh t = either_cases Full fresh (λ e. either_cases Full (ltb t 10) (λ e. refl) (λ e. refl)) (λ e. refl)
 
-pending_full : (r : Room) (v t : ℕ) → Full (pending_of r v t).«data»
-unfolding pending_of pending_in
+-- what stands in an answer, or behind a refusal
+unwrapped : {A : Type 0} (P : A → Type 0) (t : Tested) (x y : A) → P x → P y → P (result_unwrap_or (result_and t (Ok x)) y)
+unwrapped P (Ok u) x y p q = p
+unwrapped P (Err k) x y p q = q
+
+pending_full : (r : Room) (v t : ℕ) → Full (result_unwrap_or (pending_of r v t) nothing_held).«data»
+unfolding pending_in
 pending_full r v t =
-    either_cases (λ (q : PendingReading). Full q.«data») (eqb (of_pipeline r v) 0) (λ e. data_full _ t)
-    (λ e. data_full false t)
+    unwrapped (λ (q : PendingReading). Full q.«data») (of_pipeline r v) (pending_in r.pipeline (state_at r v) t) nothing_held
+    (data_full _ t) (data_full false 0)
+
+few_entry : (e : std.Option LogEntry) → length (entry_numbers e) ≤ 3
+few_entry std.None = omega arith
+few_entry (std.Some e) = omega arith
+
+few_record : (x : RecordReading) → length (record_numbers x) ≤ 39
+few_record x = by x.entry
+  where
+    by : (e : std.Option LogEntry) → length (entry_numbers e ++ x.start ∷ x.end ∷ []) ≤ 39
+    by std.None = omega arith
+    by (std.Some e) = omega arith
 
 -- 39 numbers behind the refusal, and two floats
 pub record Few (s : Said) : Type 0 where
@@ -94,10 +115,10 @@ pub record Few (s : Said) : Type 0 where
 few : {k : ℕ} {xs : List ℕ} → length xs ≤ 39 → Few (plain k xs)
 few h = record { numbers = h; floats = omega arith }
 
-few_ratio : (x : Maybe Float) → Few (said (a_ratio x))
+few_ratio : (x : std.Option Float) → Few (said (a_ratio x))
 unfolding said
-few_ratio None = record { numbers = omega arith; floats = omega arith }
-few_ratio (Some x) = record { numbers = omega arith; floats = omega arith }
+few_ratio std.None = record { numbers = omega arith; floats = omega arith }
+few_ratio (std.Some x) = record { numbers = omega arith; floats = omega arith }
 
 few_read : (q : Reading) (r : Room) → Few (said (answer_of q r))
 unfolding said answer_of
@@ -118,9 +139,9 @@ few_read proposal_outcome r = few (omega arith)
 few_read (node v) r = few (omega arith)
 few_read (packet_text v out) r = record { numbers = omega arith; floats = omega arith }
 few_read (log_len v) r = few (omega arith)
-few_read (log_entry v k) r = few (omega arith)
+few_read (log_entry v k) r = few (omega (arith, few_entry (result_unwrap_or (log_entry_of r v k) std.None)))
 few_read (pending v t) r = few (omega (arith, pending_full r v t))
-few_read («record» k) r = few (omega arith)
+few_read («record» k) r = few (few_record (result_unwrap_or (record_of r k) no_record))
 
 few_call : (c : Option Call) (r : Room) → Few (said_in c r)
 unfolding said_in call_said

@@ -1,19 +1,24 @@
 // What calls tell of their answers, in lent lists: numbers from a place on, the refusal in front, and floats from a
-// place on. A place past the end gets nothing.
-ghost use Rattle.std.specs.Prelude.{◌≡◌, [], ◌∷◌, set};
+// place on. A place past the end gets nothing. Where a call is refused, zeros stand behind the refusal, or what else is
+// nothing: C is told as many numbers either way.
+ghost use Rattle.std.specs.Prelude.{◌≡◌, [], ◌∷◌, set, Some, None};
+ghost use Rattle.std.specs.Result.{result_unwrap_or};
 ghost use Rattle.std.proofs.lemmas.List.Edits.{sets};
+ghost use Rattle.limits.specs.Refusals.{answer_of};
 ghost use Rattle.engines_c.specs.Numbers.{metrics_numbers};
 ghost use Rattle.readings.specs.Calls.{the_settings, a_ratio, maybe_number, an_outcome, a_node, an_entry, a_pending, a_record};
-ghost use Rattle.room_c.specs.Answers.{kind_number, outcome_number, said, told_in};
+ghost use Rattle.room_c.specs.Answers.{kind_number, outcome_number, entry_numbers, nothing_held, no_record, said, told_in};
 
 use engines::metrics::MetricsCollector;
+use engines::node::Node;
 use engines::settings::Settings;
 use engines_c::{numbers, payloads};
+use limits::refusals;
+use limits::refusals::Refusal;
 use merges::merging::ProposalOutcome;
-use readings::readings::{
-    EntryReading, NodeReading, NumberReading, OutcomeReading, PendingReading, RecordReading,
-    TextReading,
-};
+use pipeline::packet;
+use pipeline::two_pc_pipeline::LogEntry;
+use readings::readings::{PendingReading, RecordReading};
 use room::room::RoomKind;
 
 // ---- readings that are never refused
@@ -22,10 +27,10 @@ use room::room::RoomKind;
 pub fn tell(told: &mut [u64], at: usize, refusal: u64, value: u64)
     ensures { told.new ≡ sets told.old at (refusal ∷ value ∷ []) }
 {
-    let values = [refusal, value];
-    numbers::put_run(told, at, 0, &values);
+    numbers::put_run(told, at, 0, &[refusal, value]);
 }
 
+// The kinds and outcomes are other crates' enums, so that no From can stand here; and C counts both from 1.
 pub fn kind_number(kind: RoomKind) -> u64
     ensures { result ≡ kind_number kind }
 {
@@ -35,7 +40,7 @@ pub fn kind_number(kind: RoomKind) -> u64
     }
 }
 
-pub fn outcome_number(outcome: ProposalOutcome) -> u64
+fn outcome_number(outcome: ProposalOutcome) -> u64
     ensures { result ≡ outcome_number outcome }
 {
     match outcome {
@@ -57,68 +62,105 @@ pub fn tell_metrics(told: &mut [u64], at: usize, m: MetricsCollector)
 
 // ---- readings with a refusal
 
-pub fn tell_number(told: &mut [u64], at: usize, q: NumberReading)
+#[tactic(auto, unfolding(crate::specs::Answers::said))]
+pub fn tell_number(told: &mut [u64], at: usize, q: Result<u64, Refusal>)
     ensures { told.new ≡ sets told.old at (told_in (said (maybe_number q))) }
 {
-    tell(told, at, q.refusal, q.value);
+    tell(told, at, refusals::answer(q), q.unwrap_or(0));
 }
 
-pub fn tell_outcome(told: &mut [u64], at: usize, q: OutcomeReading)
+#[tactic(auto, unfolding(crate::specs::Answers::said))]
+pub fn tell_outcome(told: &mut [u64], at: usize, q: Result<ProposalOutcome, Refusal>)
     ensures { told.new ≡ sets told.old at (told_in (said (an_outcome q))) }
 {
-    let outcome = q.outcome;
-    tell(told, at, q.refusal, outcome_number(outcome));
+    let outcome = q.unwrap_or(ProposalOutcome::TimedOut);
+    tell(told, at, refusals::answer(q), outcome_number(outcome));
 }
 
-pub fn tell_text(told: &mut [u64], at: usize, q: TextReading)
-    ensures { told.new ≡ sets told.old at (q.refusal ∷ q.len ∷ []) }
+pub fn tell_text(told: &mut [u64], at: usize, q: Result<usize, Refusal>)
+    ensures { told.new ≡ sets told.old at (answer_of q ∷ result_unwrap_or q 0 ∷ []) }
 {
-    tell(told, at, q.refusal, q.len as u64);
+    tell(told, at, refusals::answer(q), q.unwrap_or(0) as u64);
 }
 
-pub fn tell_node(told: &mut [u64], at: usize, q: NodeReading)
+#[tactic(auto, unfolding(crate::specs::Answers::said))]
+pub fn tell_node(told: &mut [u64], at: usize, q: Result<Node, Refusal>)
     ensures { told.new ≡ sets told.old at (told_in (said (a_node q))) }
 {
-    let node = q.node;
-    numbers::put(told, at, q.refusal);
-    numbers::put_node(told, at, 1, node);
+    numbers::put(told, at, refusals::answer(q));
+    numbers::put_node(told, at, 1, q.unwrap_or(Node::new()));
 }
 
-pub fn tell_entry(told: &mut [u64], at: usize, q: EntryReading)
+// Whether there is an entry, its transaction, and whether that was committed.
+fn entry_numbers(entry: Option<LogEntry>) -> [u64; 3]
+    ensures { result ≡ entry_numbers entry }
+{
+    match entry {
+        None => [0, 0, 0],
+        Some(e) => [1, u64::from(e.tx), u64::from(e.committed)],
+    }
+}
+
+#[tactic(auto, unfolding(crate::specs::Answers::said))]
+pub fn tell_entry(told: &mut [u64], at: usize, q: Result<Option<LogEntry>, Refusal>)
     ensures { told.new ≡ sets told.old at (told_in (said (an_entry q))) }
 {
-    let values = [q.refusal, q.there as u64, q.tx, q.committed as u64];
-    numbers::put_run(told, at, 0, &values);
+    let [there, tx, committed] = entry_numbers(q.unwrap_or(None));
+    numbers::put_run(told, at, 0, &[refusals::answer(q), there, tx, committed]);
 }
 
-pub fn tell_pending(told: &mut [u64], at: usize, q: PendingReading)
+fn nothing_held() -> PendingReading
+    ensures { result ≡ nothing_held }
+{
+    PendingReading {
+        pending: false,
+        abort: false,
+        votes: 0,
+        start: 0,
+        data: packet::data(false, 0),
+    }
+}
+
+#[tactic(auto, unfolding(crate::specs::Answers::said))]
+pub fn tell_pending(told: &mut [u64], at: usize, q: Result<PendingReading, Refusal>)
     ensures { told.new ≡ sets told.old at (told_in (said (a_pending q))) }
 {
-    let data = q.data;
-    let bytes = data.bytes;
+    let held = q.unwrap_or(nothing_held());
     let values = [
-        q.refusal,
-        q.pending as u64,
-        q.abort as u64,
-        q.votes,
-        q.start,
-        data.len as u64,
+        refusals::answer(q),
+        u64::from(held.pending),
+        u64::from(held.abort),
+        held.votes,
+        held.start,
+        held.data.len as u64,
     ];
-    let rest = payloads::widened(bytes);
     numbers::put_run(told, at, 0, &values);
-    numbers::put_run(told, at, 6, &rest);
+    numbers::put_run(told, at, 6, &payloads::widened(held.data.bytes));
 }
 
-pub fn tell_record(told: &mut [u64], at: usize, q: RecordReading)
+fn no_record() -> RecordReading
+    ensures { result ≡ no_record }
+{
+    RecordReading {
+        entry: None,
+        start: 0,
+        end: 0,
+    }
+}
+
+#[tactic(auto, unfolding(crate::specs::Answers::said))]
+pub fn tell_record(told: &mut [u64], at: usize, q: Result<RecordReading, Refusal>)
     ensures { told.new ≡ sets told.old at (told_in (said (a_record q))) }
 {
+    let record = q.unwrap_or(no_record());
+    let [there, tx, committed] = entry_numbers(record.entry);
     let values = [
-        q.refusal,
-        q.there as u64,
-        q.tx,
-        q.committed as u64,
-        q.start,
-        q.end,
+        refusals::answer(q),
+        there,
+        tx,
+        committed,
+        record.start,
+        record.end,
     ];
     numbers::put_run(told, at, 0, &values);
 }
@@ -128,10 +170,10 @@ pub fn tell_record(told: &mut [u64], at: usize, q: RecordReading)
 fn put_float(floats: &mut [f64], at: usize, x: f64)
     ensures { floats.new ≡ set floats.old at x }
 {
-    if floats.len() <= at {
-        return;
+    // Not by get_mut: what it lends is not shown to be the place that `set` names.
+    if at < floats.len() {
+        floats[at] = x;
     }
-    floats[at] = x;
 }
 
 fn put_floats(floats: &mut [f64], at: usize, x: f64, y: f64)
@@ -144,6 +186,7 @@ fn put_floats(floats: &mut [f64], at: usize, x: f64, y: f64)
     put_float(floats, at + 1, y);
 }
 
+#[tactic(auto, unfolding(crate::specs::Answers::said))]
 pub fn tell_settings(told: &mut [u64], at: usize, floats: &mut [f64], f: usize, s: Settings)
     ensures told_after { told.new ≡ sets told.old at (told_in (said (the_settings s))) }
     ensures floats_after { floats.new ≡ sets floats.old f (said (the_settings s)).floats }
@@ -152,14 +195,15 @@ pub fn tell_settings(told: &mut [u64], at: usize, floats: &mut [f64], f: usize, 
         0,
         s.seed,
         s.listen_timeout,
-        s.flood_repeats as u64,
+        u64::from(s.flood_repeats),
         s.round_slots,
-        s.slots_given as u64,
+        u64::from(s.slots_given),
     ];
     numbers::put_run(told, at, 0, &values);
     put_floats(floats, f, s.loss_rate, s.abort_probability);
 }
 
+#[tactic(auto, unfolding(crate::specs::Answers::said))]
 pub fn tell_ratio(told: &mut [u64], at: usize, floats: &mut [f64], f: usize, x: Option<f64>)
     ensures told_after { told.new ≡ sets told.old at (told_in (said (a_ratio x))) }
     ensures floats_after { floats.new ≡ sets floats.old f (said (a_ratio x)).floats }

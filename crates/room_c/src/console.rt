@@ -134,11 +134,12 @@ fn tell_round(told: &mut [u64], at: usize, a: RoundAnswer) -> Room
     room
 }
 
-// A reading of the whole room.
-fn read_whole(told: &mut [u64], at: usize, floats: &mut [f64], f: usize, which: u64, r: Room)
+// A reading of the whole room. The numbers are C's, and each is told where it is read: an enum of the readings would
+// name all of them twice more.
+fn read_whole(told: &mut [u64], at: usize, floats: &mut [f64], f: usize, which: u64, r: &Room)
     requires { 4 ≤ which }
-    ensures told_after { told.new ≡ sets told.old at (told_in (whole_said which r)) }
-    ensures floats_after { floats.new ≡ sets floats.old f (whole_said which r).floats }
+    ensures told_after { told.new ≡ sets told.old at (told_in (whole_said which r.now)) }
+    ensures floats_after { floats.new ≡ sets floats.old f (whole_said which r.now).floats }
 {
     match which {
         4 => answers::tell(told, at, 0, answers::kind_number(reading::kind(r))),
@@ -159,11 +160,11 @@ fn read_whole(told: &mut [u64], at: usize, floats: &mut [f64], f: usize, which: 
 }
 
 // A reading of a position or a place.
-fn read_part(told: &mut [u64], at: usize, text: &mut [u8], which: u64, a: usize, b: usize, r: Room)
+fn read_part(told: &mut [u64], at: usize, text: &mut [u8], which: u64, a: usize, b: usize, r: &Room)
     requires { 18 ≤ which }
     ensures told_after { told.new ≡
-        sets told.old at (told_in (part_said text.old a b which r)) }
-    ensures text_after { text.new ≡ (part_said text.old a b which r).text text.old }
+        sets told.old at (told_in (part_said text.old a b which r.now)) }
+    ensures text_after { text.new ≡ (part_said text.old a b which r.now).text text.old }
 {
     match which {
         18 => answers::tell_node(told, at, reading::node(r, a)),
@@ -219,11 +220,11 @@ fn call(
             tell_round(told, at, y)
         }
         4..=17 => {
-            read_whole(told, at, floats, f, which, r);
+            read_whole(told, at, floats, f, which, &r);
             r
         }
         18..=23 => {
-            read_part(told, at, text, which, a, b, r);
+            read_part(told, at, text, which, a, b, &r);
             r
         }
         _ => {
