@@ -9,12 +9,13 @@
 // transaction, and 256 more if it was committed.
 #![tactic(auto)]
 
-use anyhow::{Result, bail};
+use anyhow::{Context, Result};
 use engines::network::{Network, RoundConf};
 use engines::node::Node;
 use engines::settings::Settings;
 use graph::network::NetworkGraph;
 use graph::sets;
+use limits::refusals::Refusal;
 use pipeline::pipeline::{PipelineConf, PipelinePart};
 use pipeline::two_pc_pipeline::{LogEntry, NodeTwoPcState, Records, TxLog, Txs};
 use pipeline_c::rounds;
@@ -27,8 +28,8 @@ const FACTOR: u64 = 6364136223846793005;
 
 // ---- a question
 
-// A share in parts, which may be turned round, as -1/3 is.
-fn share(over: u64, under: u64, turned: u64) -> f64 {
+// A share as over, under and whether it is turned round, as -1/3 is.
+fn share([over, under, turned]: [u64; 3]) -> f64 {
     let x = std::num::nearest_u64_to_f64(over) / std::num::nearest_u64_to_f64(under);
     if turned == 1 { -x } else { x }
 }
@@ -41,10 +42,12 @@ fn words_of(alloc: Global, seed: u64, count: u64) -> Result<Vec<u64>, AllocError
         .collect(alloc)
 }
 
-// The room that a question asks for.
+// The room that a question asks for, and what its rounds are lent.
 #[derive(Clone, Copy)]
 struct Asked {
-    graph: NetworkGraph,
+    topology: u64,
+    n: u64,
+    argument: u64,
     transactions: u64,
     repeats: u64,
     given: bool,
@@ -53,12 +56,64 @@ struct Asked {
     abort_probability: f64,
     interval: u64,
     bound: u64,
+    seed: u64,
+    words: u64,
+    cursor: u64,
+    numbers: u64,
+    used: u64,
+    most: u64,
 }
 
 impl Asked {
-    fn conf(&self) -> PipelineConf {
+    fn from_numbers(question: &[u64]) -> Option<Asked> {
+        let (&[topology, n, argument], rest) = question.split_first_chunk::<3>()?;
+        let (&[transactions, repeats, given, slots], rest) = rest.split_first_chunk::<4>()?;
+        let (&loss, rest) = rest.split_first_chunk::<3>()?;
+        let (&abort, rest) = rest.split_first_chunk::<3>()?;
+        let (&[interval, bound, seed, words], rest) = rest.split_first_chunk::<4>()?;
+        let &[cursor, numbers, used, most] = rest else {
+            return None;
+        };
+        Some(Asked {
+            topology,
+            n,
+            argument,
+            transactions,
+            repeats,
+            given: given != 0,
+            slots,
+            loss_rate: share(loss),
+            abort_probability: share(abort),
+            interval,
+            bound,
+            seed,
+            words,
+            cursor,
+            numbers,
+            used,
+            most,
+        })
+    }
+
+    fn graph(&self) -> Result<NetworkGraph, Refusal> {
+        NetworkGraph::from_topology(self.topology, self.n as usize, self.argument as usize)
+    }
+
+    // Nobody has played yet, but words and rows may have been used before.
+    fn opened(&self) -> Played {
+        Played {
+            refusal: 0,
+            cursor: self.cursor as usize,
+            used: self.used as usize,
+            count: 0,
+            network: Network::new(),
+            part: PipelinePart::new(),
+        }
+    }
+
+    fn conf(&self, graph: NetworkGraph) -> PipelineConf {
         let repeats = (self.repeats % 4294967296) as u32;
-        let diameter = self.graph.diameter().unwrap_or(0);
+        let diameter = graph.diameter().unwrap_or(0);
         let settings = Settings {
             loss_rate: self.loss_rate,
             abort_probability: self.abort_probability,
@@ -70,7 +125,7 @@ impl Asked {
         };
         PipelineConf {
             round: RoundConf {
-                graph: self.graph,
+                graph,
                 settings,
                 interval: self.interval,
                 length: flood::flood::flood_length(self.given, self.slots, diameter, repeats),
@@ -78,18 +133,6 @@ impl Asked {
             transactions: self.transactions as usize,
             bound: self.bound,
         }
-    }
-}
-
-// A room in which nobody has played, with the words and rows that were used before.
-fn opened(cursor: u64, used: u64) -> Played {
-    Played {
-        refusal: 0,
-        cursor: cursor as usize,
-        used: used as usize,
-        count: 0,
-        network: Network::new(),
-        part: PipelinePart::new(),
     }
 }
 
@@ -245,57 +288,26 @@ fn say_logs(rt: &impl Print, states: &[NodeTwoPcState], n: usize) -> io::Result<
 
 // ---- a line
 
-fn answer(rt: &(impl Print + AllocGlobal), question: &[u64]) -> Result<()> {
-    let &[
-        topology,
-        n,
-        argument,
-        transactions,
-        repeats,
-        given,
-        slots,
-        loss_over,
-        loss_under,
-        loss_turned,
-        abort_over,
-        abort_under,
-        abort_turned,
-        interval,
-        bound,
-        seed,
-        words,
-        cursor,
-        numbers,
-        used,
-        most,
-    ] = question
-    else {
-        bail!("no question: {question:?}");
-    };
-    let graph = match NetworkGraph::from_topology(topology, n as usize, argument as usize) {
-        Ok(graph) => graph,
-        Err(refusal) => {
-            println!(rt; "{}", u64::from(refusal))?;
-            return Ok(());
-        }
-    };
-    let asked = Asked {
-        graph,
-        transactions,
-        repeats,
-        given: given != 0,
-        slots,
-        loss_rate: share(loss_over, loss_under, loss_turned),
-        abort_probability: share(abort_over, abort_under, abort_turned),
-        interval,
-        bound,
-    };
-    let words = words_of(rt.alloc(), seed, words)?;
-    let mut rows = vec![in rt.alloc(); 0; numbers as usize]?;
-    let played = rounds::play_rounds(&words, &mut rows, asked.conf(), opened(cursor, used), most);
+fn play(rt: &(impl Print + AllocGlobal), graph: NetworkGraph, asked: Asked) -> Result<()> {
+    let words = words_of(rt.alloc(), asked.seed, asked.words)?;
+    let mut rows = vec![in rt.alloc(); 0; asked.numbers as usize]?;
+    let conf = asked.conf(graph);
+    let played = rounds::play_rounds(&words, &mut rows, conf, asked.opened(), asked.most);
     say_counts(rt, &played, graph.n)?;
-    print!(rt; " {}", digest_of(&played, graph.n, &rows, used as usize))?;
+    print!(rt;
+        " {}",
+        digest_of(&played, graph.n, &rows, asked.used as usize)
+    )?;
     say_logs(rt, &played.part.states, graph.n)?;
+    Ok(())
+}
+
+fn answer(rt: &(impl Print + AllocGlobal), question: &[u64]) -> Result<()> {
+    let asked = Asked::from_numbers(question).context("no question of 21 numbers")?;
+    match asked.graph() {
+        Ok(graph) => play(rt, graph, asked)?,
+        Err(refusal) => println!(rt; "{}", u64::from(refusal))?,
+    }
     Ok(())
 }
 

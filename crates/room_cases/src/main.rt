@@ -11,7 +11,7 @@
 // and the buffer for texts up to its last byte that is not 0.
 #![tactic(auto)]
 
-use anyhow::{Context, Result, bail};
+use anyhow::{Context, Result};
 use graph::network::NetworkGraph;
 use room_c::console;
 use std::alloc::{AllocError, Global};
@@ -41,6 +41,16 @@ const LINK_PDR: u64 = 11;
 const FLOOD_COVERAGE: u64 = 12;
 
 // ---- what a room is lent
+
+#[derive(Drop)]
+struct Lent {
+    loss: f64,
+    abort: f64,
+    links: Vec<u64>,
+    words: Vec<u64>,
+    rows: Vec<u64>,
+    text: Vec<u8>,
+}
 
 // A row for each position, also for those that are too many for a graph.
 fn links_of(alloc: Global, topology: u64, n: u64, argument: u64) -> Result<Vec<u64>, AllocError> {
@@ -105,55 +115,56 @@ fn say_text(rt: &impl Print, text: &[u8]) -> io::Result<()> {
 
 // ---- a question
 
-fn answer(rt: &(impl Print + AllocGlobal), question: &[u64]) -> Result<()> {
-    let Some(
-        (
-            setup,
-            &[
-                loss,
-                abort,
-                topology,
-                n,
-                argument,
-                first,
-                step,
-                count,
-                rows,
-                text,
-                ref calls @ ..,
-            ],
-        ),
-    ) = question.split_at_checked(10)
-    else {
-        bail!("no question: {question:?}");
-    };
-    let alloc = rt.alloc();
-    let mut rows = vec![in alloc; 0; MOST_ROWS.min(rows as usize)]?;
-    let mut text = vec![in alloc; 0u8; MOST_TEXT.min(text as usize)]?;
+fn play(
+    rt: &(impl Print + AllocGlobal),
+    setup: &[u64],
+    mut lent: Lent,
+    calls: &[u64],
+) -> Result<()> {
     let asked = calls.len() / CALL;
-    let mut told = vec![in alloc; 0; asked * TOLD]?;
-    let mut floats = vec![in alloc; 0.0; asked * FLOATS]?;
+    let mut told = vec![in rt.alloc(); 0; asked * TOLD]?;
+    let mut floats = vec![in rt.alloc(); 0.0; asked * FLOATS]?;
     let refusal = console::room_run(
         setup,
-        *LOSSES.get(loss as usize).context("no such loss")?,
-        *ABORTS.get(abort as usize).context("no such probability")?,
-        &links_of(alloc, topology, n, argument)?,
-        &case_lines::words_from(alloc, first, step, count)?,
-        &mut rows,
+        lent.loss,
+        lent.abort,
+        &lent.links,
+        &lent.words,
+        &mut lent.rows,
         calls,
         &mut told,
         &mut floats,
-        &mut text,
+        &mut lent.text,
         &mut [0],
     );
     print!(rt; "{refusal}")?;
     if refusal == 0 {
         say_calls(rt, calls, &told, &floats)?;
     }
-    print!(rt; ";{}", case_lines::digest(&rows))?;
-    say_text(rt, &text)?;
+    print!(rt; ";{}", case_lines::digest(&lent.rows))?;
+    say_text(rt, &lent.text)?;
     println!(rt)?;
     Ok(())
+}
+
+fn answer(rt: &(impl Print + AllocGlobal), question: &[u64]) -> Result<()> {
+    let alloc = rt.alloc();
+    let (setup, rest) = question.split_at_checked(10).context("no opening")?;
+    let (&[loss, abort, topology, n, argument], rest) = rest
+        .split_first_chunk::<5>()
+        .context("no links")?;
+    let (&[first, step, count, rows, text], calls) = rest
+        .split_first_chunk::<5>()
+        .context("no buffers")?;
+    let lent = Lent {
+        loss: *LOSSES.get(loss as usize).context("no such loss")?,
+        abort: *ABORTS.get(abort as usize).context("no such probability")?,
+        links: links_of(alloc, topology, n, argument)?,
+        words: case_lines::words_from(alloc, first, step, count)?,
+        rows: vec![in alloc; 0; MOST_ROWS.min(rows as usize)]?,
+        text: vec![in alloc; 0; MOST_TEXT.min(text as usize)]?,
+    };
+    play(rt, setup, lent, calls)
 }
 
 fn main(rt: HostRuntime) -> Result<()> {
