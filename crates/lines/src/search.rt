@@ -1,11 +1,41 @@
 // RULES 14.2. Where a line ends.
-ghost use Rattle.std.specs.Prelude.{◌≡◌, ◌<◌, ◌≤◌, length, MatchOption};
+ghost use Rattle.std.specs.Prelude.{true, ◌≡◌, ◌≤◌, ◌<◌, length, MatchOption};
 ghost use Rattle.std.specs.List.{position};
 ghost use Rattle.lines.specs.Feeding.{ends_line};
-ghost use Rattle.lines.specs.Ends.{NextEnd};
+ghost use Rattle.lines.specs.Ends.{Unbroken, NextEnd};
 
 // The byte that ends a line.
 const END: u8 = b'\n';
+
+// How many bytes are looked at together.
+const BLOCK: usize = 32;
+
+// Whether no line ends in a block. All bytes are looked at, also behind an end: a loop without a branch takes many at
+// once. Of 60000 bytes without an end `position` alone takes 27 us and more, blocks with `all` as much, and this 2 us.
+fn is_unbroken(block: &[u8]) -> bool
+    ensures { result ≡ true → Unbroken block.now 0 (length block.now) }
+{
+    let mut good = true;
+    for &b in block {
+        good &= b != END;
+    }
+    good
+}
+
+// Passes over blocks in which no line ends, since most of a long line is such blocks; the place behind them.
+fn pass_blocks(text: &[u8], at: usize) -> usize
+    requires { at ≤ length text.now }
+    ensures { (at ≤ result) × (result ≤ length text.now) × Unbroken text.now at result }
+{
+    let blocks = (text.len() - at) / BLOCK;
+    for k in 0..blocks {
+        let from = at + BLOCK * k;
+        if !is_unbroken(&text[from..from + BLOCK]) {
+            return from;
+        }
+    }
+    at + BLOCK * blocks
+}
 
 // How many bytes stand before the first end of a line, if there is one.
 fn first_end(text: &[u8]) -> Option<usize>
@@ -19,6 +49,7 @@ pub(crate) fn line_end(text: &[u8], at: usize) -> Option<usize>
     requires { at ≤ length text.now }
     ensures { MatchOption result (NextEnd text.now at (length text.now)) (λ end. NextEnd text.now at end × (end < length text.now)) }
 {
-    let ahead = first_end(&text[at..])?;
-    Some(at + ahead)
+    let from = pass_blocks(text, at);
+    let ahead = first_end(&text[from..])?;
+    Some(from + ahead)
 }

@@ -6,13 +6,16 @@ use Prim.Native.Nat.{ℕ, ◌+◌, ◌-◌, min, ◌≤◌, ◌<◌}
 use native.Mathlib.Omega.{arith}
 use lib.ListN.{length, take, drop, length-drop, drop_of_length-le}
 use lib.Seq.{length-take-le, take_all, take_at, drop-drop}
+use borrow.Author.Tests.{le-leb}
+use Rattle.std.specs.Prelude.{Result, Ok, IsOk, Option, Some}
+use Rattle.limits.specs.declared.refusals.Refusal.{Refusal}
 use Rattle.frame.specs.Bounds.{frame_words, ended_bytes}
 use Rattle.lines.specs.Input.{ended_of}
-use Rattle.lines.specs.Feeding.{Feeds, ends_line, is_full, feed_by}
+use Rattle.lines.specs.Feeding.{Feeds, ends_line, is_full, feed_by, fed_to, end_of}
 use Rattle.lines.specs.Reading.{CallsOn}
 use Rattle.lines.specs.declared.feed.Fed.{Fed}
 use Rattle.lines.proofs.Forks.{fork}
-use Rattle.lines.proofs.Standing.{came_within, came_on, call_again}
+use Rattle.lines.proofs.Standing.{came_to, came_within, came_on, call_again}
 use Rattle.planner.specs.Turns.{left_of, TakesIn}
 
 -- ---- what is left, call by call
@@ -70,28 +73,41 @@ pub record Came (text : List ℕ) (from at : ℕ) (r : Fed) : Type 0 where
   pub on : at < from + r.at
   pub left : left_at text (from + r.from) (from + r.at) ≡ left_at text from at
 
-pub came : (text : List ℕ) (from at : ℕ) {words out : List ℕ} {r : Fed} {words' out' : List ℕ} → from ≤ at → at < length text → frame_words ≤ length words → ended_bytes ≤ length out → Feeds (take (length text - from) (drop from text)) (at - from) words out 0 r words' out' → Came text from at r
-came text from at {words} {out} {r} h l g k c =
+pub came : (text : List ℕ) (from at : ℕ) {words out : List ℕ} {q : Result Fed Refusal} {words' out' : List ℕ} {r : Fed} → from ≤ at → at < length text → frame_words ≤ length words → ended_bytes ≤ length out → Feeds (take (length text - from) (drop from text)) (at - from) words out 0 q words' out' → q ≡ Ok r → Came text from at r
+came text from at {words} {out} {q} {words'} {out'} {r} h l g k c e =
     let part : length (take (length text - from) (drop from text)) ≡ length text - from = length-take-le (length text - from) (drop from text) (omega (arith, length-drop from text)) in
-    let w = came_within c (omega arith) g (omega arith) in
-    let o = came_on c (omega arith) g (omega arith) (omega arith) (omega arith) in
-    let a = call_again (take (length text - from) (drop from text)) (at - from) (length words) (length out) 0 (omega arith) g (omega arith) in
-    let p = subst (λ (x : Fed). CallsOn (take (length text - from) (drop from text)) (at - from) (length out - 0) x) (sym c.answer) a in
+    let w = came_within c (omega arith) g (omega arith) e in
+    let o = came_on c (omega arith) g (omega arith) e (omega arith) (omega arith) in
+    let a = (call_again (take (length text - from) (drop from text)) (at - from) (length words) (length out) 0 (omega arith) g (omega arith)).1 in
+    let i : ◌≡◌ {A = Result Fed Refusal} (Ok r) (Ok (fed_to (take (length text - from) (drop from text)) (at - from) (length out) 0)) = sym e ∙ came_to c (omega arith) g (omega arith) in
+    let j : r ≡ fed_to (take (length text - from) (drop from text)) (at - from) (length out) 0 = cc in
+    let p = subst (λ (x : Fed). CallsOn (take (length text - from) (drop from text)) (at - from) (length out - 0) x) (sym j) a in
     let q = subst (λ (l : List ℕ). CallsOn l (at - from) (length out - 0) r) (take_all (length text - from) (drop from text) (omega (arith, length-drop from text))) p in
     record { order = w.0; within = omega (arith, w.1); on = omega (arith, o); left = left_behind text from r.from r.at ∙ left_again (drop from text) (at - from) (length out - 0) q ∙ left_from text from at h }
+
+pub is_ok : (text : List ℕ) (from at : ℕ) {words out : List ℕ} {q : Result Fed Refusal} {words' out' : List ℕ} → from ≤ at → at ≤ length text → frame_words ≤ length words → Feeds (take (length text - from) (drop from text)) (at - from) words out 0 q words' out' → IsOk q
+is_ok text from at h l g c =
+    let part : length (take (length text - from) (drop from text)) ≡ length text - from = length-take-le (length text - from) (drop from text) (omega (arith, length-drop from text)) in
+    rw (came_to c (omega arith) g (omega arith)) refl
 
 -- ---- what a read brought
 
 -- The part of the buffer that was lent has the present line and the k bytes that were read.
-pub brought : (buf : List ℕ) (n k : ℕ) {count ws kept : ℕ} {over : Bool} {out out' part : List ℕ} → n + k ≤ length buf → count ≡ min k (length buf - n) → TakesIn (take (n + count - 0) buf) out n ws kept over part out' → length part ≡ length (take (n + count - 0) buf) → TakesIn (take (n + k) buf) out n ws kept over (take (n + k) (part ++ drop (n + count - 0) buf)) out'
-brought buf n k {count} {ws} {kept} {over} {out} {out'} {part} h q i m =
+pub brought : (buf : List ℕ) (n k : ℕ) {E : Type 0} {count ws : ℕ} {r : Result (Option ℕ) E} {out out' part : List ℕ} → n + k ≤ length buf → count ≡ min k (length buf - n) → TakesIn (take (n + count) buf) out n ws r part out' → length part ≡ length (take (n + count) buf) → TakesIn (take (n + k) buf) out n ws r (take (n + k) (part ++ drop (n + count) buf)) out'
+brought buf n k {E} {count} {ws} {r} {out} {out'} {part} h q i m =
     let a : count ≡ k = q ∙ least k (length buf - n) (omega arith) in
-    let f : take (n + count - 0) buf ≡ take (n + k) buf = ap (λ (j : ℕ). take j buf) (same a) in
-    let g : take (n + k) (part ++ drop (n + count - 0) buf) ≡ part = take_at part (drop (n + count - 0) buf) (n + k) (m ∙ ap length f ∙ length-take-le (n + k) buf h) in
-    subst (λ (x : List ℕ). TakesIn (take (n + k) buf) out n ws kept over x out') (sym g) (subst (λ (t : List ℕ). TakesIn t out n ws kept over part out') f i)
+    let f : take (n + count) buf ≡ take (n + k) buf = ap (λ (j : ℕ). take (n + j) buf) a in
+    let g : take (n + k) (part ++ drop (n + count) buf) ≡ part = take_at part (drop (n + count) buf) (n + k) (m ∙ ap length f ∙ length-take-le (n + k) buf h) in
+    subst (λ (x : List ℕ). TakesIn (take (n + k) buf) out n ws r x out') (sym g) (subst (λ (t : List ℕ). TakesIn t out n ws r part out') f i)
   where
     least : (k m : ℕ) → k ≤ m → min k m ≡ k
     least k m l = omega arith
 
-    same : count ≡ k → n + count - 0 ≡ n + k
-    same a = omega arith
+-- ---- answers
+
+pub last_ok : (line : List ℕ) {ws out : ℕ} {r : Result ℕ Refusal} → frame_words ≤ ws → ended_bytes ≤ out → r ≡ end_of line ws out → IsOk r
+unfolding end_of
+last_ok line {ws} {out} h g e = rw (e, le-leb frame_words ws h, le-leb ended_bytes out g) refl
+
+pub one_kept : {E : Type 0} {a b : ℕ} → ◌≡◌ {A = Result (Option ℕ) E} (Ok (Some a)) (Ok (Some b)) → a ≡ b
+one_kept e = cc

@@ -1,6 +1,6 @@
 -- RULES 14.3. What a read leaves of the present line, and what is done behind the last one. Assumes nothing: these are
 -- definitions.
-use Rattle.std.specs.Prelude.{Bool, true, false, List, [], ◌∷◌, ◌++◌, ◌≡◌, ℕ, ◌≤◌, length, take, drop}
+use Rattle.std.specs.Prelude.{Result, Ok, Option, Some, List, [], ◌∷◌, ◌++◌, ◌≡◌, ℕ, ◌≤◌, length, take, drop}
 use Rattle.loops.specs.Pick.{either}
 use Rattle.lines.specs.Feeding.{kept_bytes, ends_line, kept_from, kept_in, end_out}
 
@@ -18,9 +18,9 @@ pub record Keeps (text : List ℕ) (n kept : ℕ) (text' : List ℕ) : Type 0 wh
   pub count : kept ≡ length (kept_from text from)
   pub front : text' ≡ kept_in text from
 
--- If nothing was read the input is over, and the answer to its last line is at the front of the output. While it is
--- not over the line is kept.
-pub record TakesIn (text out : List ℕ) (n words kept : ℕ) (over : Bool) (text' out' : List ℕ) : Type 0 where
-  pub few : kept ≤ kept_bytes
-  pub on : over ≡ false → Keeps text n kept text'
-  pub last : length text ≡ n → (over ≡ true) × (out' ≡ end_out text words out)
+-- What is answered to a read, if nothing fails: how many bytes of the line are kept, or that the input is over. If
+-- nothing was read it is over, and the answer to its last line is at the front of the output.
+pub record TakesIn {E : Type 0} (text out : List ℕ) (n words : ℕ) (r : Result (Option ℕ) E) (text' out' : List ℕ) : Type 0 where
+  pub few : (kept : ℕ) → r ≡ Ok (Some kept) → kept ≤ kept_bytes
+  pub on : (kept : ℕ) → r ≡ Ok (Some kept) → Keeps text n kept text'
+  pub last : length text ≡ n → ((kept : ℕ) → r ≡ Ok (Some kept) → ⊥) × (out' ≡ end_out text words out)

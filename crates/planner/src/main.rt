@@ -1,9 +1,10 @@
 // RULES 14.2 and 14.3. Reads frames from standard input, one to a line, and prints the listing line of each.
 #![tactic(auto)]
 
-ghost use Rattle.std.specs.Prelude.{◌≡◌, ◌+◌, ◌≤◌, ◌<◌, length, take, drop, IfOk};
+ghost use Rattle.std.specs.Prelude.{◌≡◌, ◌+◌, ◌≤◌, ◌<◌, length, take, drop, IfOk, IfSome};
 ghost use Rattle.frame.specs.Bounds.{kept_bytes, frame_words};
-ghost use Rattle.planner.specs.Turns.{left_of, TakesIn, KeepsFew};
+ghost use Rattle.lines.specs.Feeding.{end_out};
+ghost use Rattle.planner.specs.Turns.{left_of, TakesIn};
 
 use frame::bounds;
 use lines::feed;
@@ -46,7 +47,9 @@ impl Planner {
     fn flush(&self, used: usize) -> Result<(), Failure>
         requires { used ≤ length self.now.out }
     {
-        self.output.write_all(&self.out[..used]).map_err(Failure::Write)
+        self.output
+            .write_all(&self.out[..used])
+            .map_err(Failure::Write)
     }
 
     // What a read brought is answered before the next read: who waits for a line's answer gets it. Where the output is
@@ -58,7 +61,13 @@ impl Planner {
         let mut from: usize = 0;
         let mut at = n;
         while at < text.len() {
-            let fed = feed::feed(&text[from..], at - from, &mut self.words, &mut self.out, 0).unwrap();
+            let fed = feed::feed(
+                &text[from..],
+                at - from,
+                &mut self.words,
+                &mut self.out,
+                0,
+            ).unwrap();
             self.flush(fed.used)?;
             at = from + fed.at;
             from += fed.from;
@@ -67,6 +76,7 @@ impl Planner {
     }
 
     fn answer_last(&mut self, line: &[u8]) -> Result<(), Failure>
+        ensures { self.new.out ≡ end_out line.now frame_words self.old.out }
     {
         let used = feed::finish(line, &mut self.words, &mut self.out).unwrap();
         self.flush(used)
@@ -76,6 +86,7 @@ impl Planner {
     // and the present line is its last. Else this many bytes at the front are the line that is left.
     fn take_in(&mut self, text: &mut [u8], n: usize) -> Result<Option<usize>, Failure>
         requires { n ≤ length text.old }
+        ensures { TakesIn text.old self.old.out n frame_words result text.new self.new.out }
     {
         if text.len() == n {
             self.answer_last(text)?;
@@ -85,17 +96,24 @@ impl Planner {
         Ok(Some(feed::keep(text, from)))
     }
 
+    // A read that did not fail answered how many bytes it brought behind the n of the present line.
+    fn after_read(&mut self, buf: &mut [u8], n: usize, got: usize) -> Result<Option<usize>, Failure>
+        requires { n ≤ length buf.old }
+        ensures { (IfOk result (λ left. IfSome left (λ kept. kept ≤ kept_bytes))) × (n + got ≤ length buf.old → TakesIn (take (n + got) buf.old) self.old.out n frame_words result (take (n + got) buf.new) self.new.out) }
+    {
+        let end = n + got.min(buf.len() - n);
+        self.take_in(&mut buf[..end], n)
+    }
+
     // One read behind the n bytes of the present line, which may bring few bytes. One that a signal cut short is made
     // again; one that fails ends the program: of a line that could not be read to its end nothing is listed.
     fn one_turn(&mut self, buf: &mut [u8], n: usize) -> Result<Option<usize>, Failure>
         requires { (n ≤ kept_bytes) × (kept_bytes < length buf.old) }
+        ensures { IfOk result (λ left. IfSome left (λ kept. kept ≤ kept_bytes)) }
     {
         let mut input = self.input;
         match input.read(&mut buf[n..]) {
-            Ok(got) => {
-                let end = n + got.min(buf.len() - n);
-                self.take_in(&mut buf[..end], n)
-            }
+            Ok(got) => self.after_read(buf, n, got),
             Err(e) => {
                 if e.kind() == ErrorKind::Interrupted {
                     return Ok(Some(n));

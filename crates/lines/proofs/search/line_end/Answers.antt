@@ -5,13 +5,18 @@ use Rattle.lines.specs.Feeding.{ends_line}
 use Rattle.std.specs.Prelude.{None}
 use native.Mathlib.Omega.{arith}
 use Rattle.std.proofs.lemmas.Grind.{common_steps}
-use Rattle.lines.proofs.Ends.{found, none_found}
+use Rattle.lines.proofs.Ends.{found, none_found, from_there}
 use Rattle.lines.proofs.search.line_end.Goals as goal
 
 pub returns-in_err-ahead : goal.returns-in_err-ahead
 returns-in_err-ahead c =
+    let p = c.pass_blocks-from.ensures in
     let n : c.from_residual.result ≡ None = grind (arith, common_steps) in
-    rw n (none_found c.args.text.now c.args.at c.requires (ap (position ends_line) (sym (take_rest c.args.text.now c.args.at)) ∙ sym c.first_end.ensures ∙ c.in_err-ahead.was))
+    let f = none_found c.args.text.now c.pass_blocks-from.result p.1 (ap (position ends_line) (sym (take_rest c.args.text.now c.pass_blocks-from.result)) ∙ sym c.first_end.ensures ∙ c.in_err-ahead.was) in
+    rw n (from_there c.args.text.now c.args.at c.pass_blocks-from.result p.0 p.2 f)
 
 pub returns : goal.returns
-returns c = found c.args.text.now c.args.at c.requires c.in_ok-ahead.ahead (ap (position ends_line) (sym (take_rest c.args.text.now c.args.at)) ∙ sym c.first_end.ensures ∙ c.in_ok-ahead.was)
+returns c =
+    let p = c.pass_blocks-from.ensures in
+    let f = found c.args.text.now c.pass_blocks-from.result p.1 c.in_ok-ahead.ahead (ap (position ends_line) (sym (take_rest c.args.text.now c.pass_blocks-from.result)) ∙ sym c.first_end.ensures ∙ c.in_ok-ahead.was) in
+    (from_there c.args.text.now c.args.at c.pass_blocks-from.result p.0 p.2 f.0, f.1)
