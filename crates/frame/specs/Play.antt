@@ -54,6 +54,11 @@ refusal_of k =
 abbrev pub told : {A : Type 0} → ℕ → A → Result A Refusal
 told k a = either (eqb k 0) (Ok a) (Err (refusal_of k))
 
+-- the value that a call left where it was lent, unless it was refused
+abbrev pub left_by : {A : Type 0} → Result (Unit {0}) Refusal → A → Result A Refusal
+left_by (Ok u) a = Ok a
+left_by (Err k) a = Err k
+
 -- what is made of a value, unless what should give it was refused
 abbrev pub unless_refused : {A B : Type 0} → (A → Result B Refusal) → Result A Refusal → Result B Refusal
 unless_refused call (Ok s) = call s
@@ -156,9 +161,7 @@ unfoldable pub played_in : Frame → List ℕ → NetworkGraph → Result ℕ Re
 played_in f ws g = unless_refused (play_of f ws) (accepted_by (asked_of f g))
 
 abbrev pub links_of : Frame → Result NetworkGraph Refusal
-links_of f =
-    let b = topology_of f.topology f.positions f.argument in
-    told b.refusal b.graph
+links_of f = topology_of f.topology f.positions f.argument
 
 abbrev pub linked_by : Frame → List ℕ → Result NetworkGraph Refusal → Result ℕ Refusal
 linked_by f ws b = unless_refused (played_in f ws) b

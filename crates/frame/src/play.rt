@@ -3,7 +3,7 @@ ghost use Rattle.std.specs.Prelude.{◌≡◌, ◌<◌};
 ghost use Rattle.std.specs.Float.{binary64};
 ghost use Rattle.std.specs.Float.Ieee.{of_bits, nan_bits};
 ghost use Rattle.room.specs.Kinds.{positions_of};
-ghost use Rattle.frame.specs.Play.{refusal_of, told, settings_of, asked_of, proposing, capturing, capture_turn, new_captured, play_capture, pipeline_turn, new_ran, play_pipeline, play_of, accepted_by, played_in, links_of, played_of};
+ghost use Rattle.frame.specs.Play.{refusal_of, told, left_by, unless_refused, capture_end, pipeline_end, settings_of, asked_of, proposing, capturing, capture_turn, new_captured, play_capture, pipeline_turn, new_ran, play_pipeline, play_of, accepted_by, played_in, links_of, played_of};
 
 use crate::line::Frame;
 use engines::network::Network;
@@ -41,14 +41,14 @@ fn refusal_of(number: u64) -> Refusal
     }
 }
 
-// The value that stands beside such a number, unless it is refused.
-fn told<T: Drop>(number: u64, value: T) -> Result<T, Refusal>
-    ensures { result ≡ told number value }
+// 0 is no refusal.
+fn told(number: u64) -> Result<(), Refusal>
+    ensures { result ≡ told number tt }
 {
     if number != 0 {
         return Err(refusal_of(number));
     }
-    Ok(value)
+    Ok(())
 }
 
 // ---- the room
@@ -109,35 +109,35 @@ fn asked_of(f: Frame, graph: NetworkGraph) -> Asked
 // ---- the calls of a capture room. They move its network and its own part: a frame needs nothing else of a room.
 
 #[tactic(auto, unfolding(crate::specs::Play::proposing))]
-fn propose(conf: RoomConf, v: usize, s: Captured) -> Result<Captured, Refusal>
-    ensures { result ≡ proposing conf v s }
+fn propose(conf: RoomConf, v: usize, s: &mut Captured) -> Result<(), Refusal>
+    ensures { left_by result s.new ≡ proposing conf v s.old }
 {
     let before = s.part;
     let p = capture_calls::propose(conf, before, v);
-    let mut q = s;
-    q.part = p.part;
-    told(p.refusal, q)
+    told(p.refusal)?;
+    s.part = p.part;
+    Ok(())
 }
 
 // The row that a round writes is not read.
 #[tactic(auto, unfolding(crate::specs::Play::capturing))]
-fn capture_next(words: &[u64], conf: RoomConf, s: Captured) -> Result<Captured, Refusal>
-    ensures { result ≡ capturing words.now conf s }
+fn capture_next(words: &[u64], conf: RoomConf, s: &mut Captured) -> Result<(), Refusal>
+    ensures { left_by result s.new ≡ capturing words.now conf s.old }
 {
     let w = s.network;
     let part = s.part;
     let mut row = [0u64; 5];
-    let next = capture_calls::capture_round(words, s.cursor, &mut row, s.used, conf, w, part);
-    told(next.refusal, next)
+    *s = capture_calls::capture_round(words, s.cursor, &mut row, s.used, conf, w, part);
+    told(s.refusal)
 }
 
 #[tactic(auto, unfolding(crate::specs::Play::capture_turn))]
-fn capture_turn(words: &[u64], conf: RoomConf, k: usize, s: Captured) -> Result<Captured, Refusal>
+fn capture_turn(words: &[u64], conf: RoomConf, k: usize, s: &mut Captured) -> Result<(), Refusal>
     requires { 0 < positions_of conf }
-    ensures { result ≡ capture_turn words.now conf k s }
+    ensures { left_by result s.new ≡ capture_turn words.now conf k s.old }
 {
-    let p = propose(conf, k % conf.round.graph.n, s)?;
-    capture_next(words, conf, p)
+    propose(conf, k % conf.round.graph.n, s)?;
+    capture_next(words, conf, s)
 }
 
 fn new_captured() -> Captured
@@ -152,33 +152,28 @@ fn new_captured() -> Captured
     }
 }
 
-#[tactic(auto, using(crate::proofs::Playing::captured_none, crate::proofs::Playing::captured_more, crate::proofs::Playing::captured_refused))]
-fn play_capture(words: &[u64], conf: RoomConf, t: usize) -> Result<Captured, Refusal>
+fn play_capture(words: &[u64], conf: RoomConf, t: usize) -> Result<u64, Refusal>
     requires { 0 < positions_of conf }
-    ensures { result ≡ play_capture t words.now conf }
+    ensures { result ≡ unless_refused capture_end (play_capture t words.now conf) }
 {
-    let mut s = new_captured();
+    let mut captured = new_captured();
     for k in 0..t {
-        s = capture_turn(words, conf, k, s)?;
+        capture_turn(words, conf, k, &mut captured)?;
     }
-    Ok(s)
+    Ok(captured.network.bytes_sent)
 }
 
 // ---- the rounds of a pipeline room
 
 #[tactic(auto, unfolding(crate::specs::Play::pipeline_turn))]
-fn pipeline_turn(
-    words: &[u64],
-    conf: RoomConf,
-    s: PipelineAnswer,
-) -> Result<PipelineAnswer, Refusal>
-    ensures { result ≡ pipeline_turn words.now conf s }
+fn pipeline_turn(words: &[u64], conf: RoomConf, s: &mut PipelineAnswer) -> Result<(), Refusal>
+    ensures { left_by result s.new ≡ pipeline_turn words.now conf s.old }
 {
     let w = s.network;
     let part = s.part;
     let mut row = [0u64; 5];
-    let next = pipeline_calls::pipeline_round(words, s.cursor, &mut row, s.used, conf, w, part);
-    told(next.refusal, next)
+    *s = pipeline_calls::pipeline_round(words, s.cursor, &mut row, s.used, conf, w, part);
+    told(s.refusal)
 }
 
 fn new_ran() -> PipelineAnswer
@@ -193,18 +188,18 @@ fn new_ran() -> PipelineAnswer
     }
 }
 
-fn play_pipeline(words: &[u64], conf: RoomConf, t: usize) -> Result<PipelineAnswer, Refusal>
+fn play_pipeline(words: &[u64], conf: RoomConf, t: usize) -> Result<u64, Refusal>
     requires { t < 256 }
-    ensures { result ≡ play_pipeline t words.now conf }
+    ensures { result ≡ unless_refused pipeline_end (play_pipeline t words.now conf) }
 {
-    let mut s = new_ran();
+    let mut ran = new_ran();
     for k in 0..t + 1002 {
-        if s.part.stop {
-            return Ok(s);
+        if ran.part.stop {
+            return Ok(ran.network.bytes_sent);
         }
-        s = pipeline_turn(words, conf, s)?;
+        pipeline_turn(words, conf, &mut ran)?;
     }
-    Ok(s)
+    Ok(ran.network.bytes_sent)
 }
 
 // ---- what comes of them
@@ -216,15 +211,16 @@ fn play(f: Frame, words: &[u64], conf: RoomConf) -> Result<u64, Refusal>
 {
     let t = f.transactions as usize;
     match f.kind {
-        RoomKind::Pipeline => Ok(play_pipeline(words, conf, t)?.network.bytes_sent),
-        RoomKind::Capture => Ok(play_capture(words, conf, t)?.network.bytes_sent),
+        RoomKind::Pipeline => play_pipeline(words, conf, t),
+        RoomKind::Capture => play_capture(words, conf, t),
     }
 }
 
 fn accepted(asked: Asked) -> Result<RoomConf, Refusal>
     ensures { result ≡ accepted_by asked }
 {
-    told(rooms::open_refusal(asked), rooms::conf_of(asked))
+    told(rooms::open_refusal(asked))?;
+    Ok(rooms::conf_of(asked))
 }
 
 #[tactic(auto, unfolding(crate::specs::Play::played_in), using(room::proofs::Calling::opened_size))]

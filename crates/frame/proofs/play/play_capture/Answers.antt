@@ -1,13 +1,22 @@
 use mathlib.Core.Path.{◌≡◌, sym, ap, ◌∙◌}
-use Rattle.std.specs.Prelude.{Err}
+use Prim.Native.Nat.{ℕ}
+use Rattle.std.specs.Prelude.{Result, Err}
 use Rattle.std.proofs.lemmas.Grind.{common_steps}
 use native.Mathlib.Omega.{arith}
-use Rattle.frame.specs.Play.{unless_refused, capture_turn, play_capture}
-use Rattle.frame.proofs.Playing.{captured_more, captured_refused}
+use Rattle.limits.specs.declared.refusals.Refusal.{Refusal}
+use Rattle.frame.specs.Play.{left_by, unless_refused, capture_end, capture_turn}
+use Rattle.frame.proofs.Playing.{captured_none, captured_more, captured_refused}
 use Rattle.frame.proofs.play.play_capture.Goals as goal
 
-pub returns-in_err-s : goal.returns-in_err-s
-returns-in_err-s c =
-    let turn = captured_more c.loop-k.k c.args.words.now c.args.conf ∙ ap (unless_refused (capture_turn c.args.words.now c.args.conf c.loop-k.k)) (sym c.loop-k.invariant) ∙ sym c.capture_turn.ensures ∙ c.in_err-s.was in
-    let end : play_capture c.args.t c.args.words.now c.args.conf ≡ Err c.in_err-s.field-0.0 = captured_refused c.args.t c.loop-k.k c.args.words.now c.args.conf turn c.loop-k-test.true in
-    rw end (grind (arith, common_steps))
+pub loop-k-init : goal.loop-k-init
+loop-k-init c = rw c.new_captured-captured.ensures (captured_none c.args.words.now c.args.conf)
+
+pub returns-in_err-capture_turn : goal.returns-in_err-capture_turn
+returns-in_err-capture_turn c =
+    let turn = captured_more c.loop-k.k c.args.words.now c.args.conf ∙ ap (unless_refused (capture_turn c.args.words.now c.args.conf c.loop-k.k)) (sym c.loop-k.invariant) ∙ sym c.capture_turn.ensures ∙ ap (λ (r : Result (Unit {0}) Refusal). left_by r c.capture_turn.new.s) c.in_err-capture_turn.was in
+    let end = captured_refused c.args.t c.loop-k.k c.args.words.now c.args.conf turn c.loop-k-test.true in
+    let refused : ◌≡◌ {A = Result ℕ Refusal} c.from_residual.result (Err c.in_err-capture_turn.field-0.0) = grind (arith, common_steps) in
+    refused ∙ ap (unless_refused capture_end) (sym end)
+
+pub loop-k-preserved : goal.loop-k-preserved
+loop-k-preserved c = sym (captured_more c.loop-k.k c.args.words.now c.args.conf ∙ ap (unless_refused (capture_turn c.args.words.now c.args.conf c.loop-k.k)) (sym c.loop-k.invariant) ∙ sym c.capture_turn.ensures ∙ ap (λ (r : Result (Unit {0}) Refusal). left_by r c.capture_turn.new.s) c.in_ok-capture_turn.was)

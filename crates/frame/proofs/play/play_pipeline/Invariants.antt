@@ -6,4 +6,4 @@ use Rattle.frame.proofs.Playing.{going}
 use Rattle.frame.proofs.play.play_pipeline.Given as goal
 
 abbrev pub invariant-loop-k : goal.invariant-loop-k
-invariant-loop-k l = going l.words l.conf (l.k-end - l.k) (Ok l.s) ≡ play_pipeline l.t l.words l.conf
+invariant-loop-k l = going l.words l.conf (l.k-end - l.k) (Ok l.ran) ≡ play_pipeline l.t l.words l.conf
