@@ -106,6 +106,7 @@ impl Room {
         }
     }
 
+    // The refusal's number, as the entry for C tells it: it is printed beside the state, whether it is 0 or not.
     fn round(&mut self, rows: &mut [u64], initiator: usize, slots: u64) -> u64 {
         console::ce_round(
             &mut self.state,

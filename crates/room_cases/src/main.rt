@@ -115,6 +115,7 @@ fn say_text(rt: &impl Print, text: &[u8]) -> io::Result<()> {
 
 // ---- a question
 
+// The refusal's number is printed as the entry for C tells it, and the buffers besides, whether it is 0 or not.
 fn play(
     rt: &(impl Print + AllocGlobal),
     setup: &[u64],
