@@ -17,7 +17,8 @@ pub enum TwoPcPhase {
     Aborted = 2,
 }
 
-// The first len marks of a word: mark i is bit i.
+// The first len marks of a word: mark i is bit i. Nothing is put on the heap here, so what has a length stands in fixed
+// memory with the length beside it, in this and in Data.
 #[derive(Clone, Copy, Debug, PartialEq, Eq)]
 pub struct Bitmap {
     pub len: usize,

@@ -108,6 +108,8 @@ fn with_mark(m: u64, k: usize, b: bool) -> u64
     if b { m + (1 << k) } else { m }
 }
 
+// Goes as read_data below. Both keep their items each in its own way, a mark in a word and a byte in an array; one reader
+// for both would take a function that keeps an item, with a clause of what it does, and be longer than the two.
 pub(crate) fn read_bitmap(s: &[u8], at: usize) -> Option<(Bitmap, usize)>
     ensures { result ≡ bitmap_at s.now at }
 {

@@ -41,6 +41,9 @@ fn put_ce(w: &mut Writer, p: CeTwoPcPacket)
     w.byte(b'}');
 }
 
+// The other family's writer and reader are the same but for the type. A trait of both would have a method for each of the
+// limits, the length, the text and the reader, and say more in two impls than stands here twice.
+
 // Writes a packet's text from index at on, and answers with the index behind it: refusal 9 outside the limits, 10 where
 // it does not fit, and then the buffer is as it was.
 pub fn write_ce_packet(buf: &mut [u8], at: usize, p: CeTwoPcPacket) -> Result<usize, Refusal>

@@ -12,7 +12,7 @@ use packets::{
     Bitmap, CeTwoPcPacket, Data, TwoPcPacket, TwoPcPhase, len, two_pc_ce, two_pc_pipeline,
 };
 
-// A number above 2 reads as Aborted.
+// C gives numbers. Where this is called they were tested, or a number above 2 reads as Aborted.
 pub fn phase_numbered(n: u64) -> TwoPcPhase
     ensures { result ≡ phase_numbered n }
 {
@@ -128,6 +128,9 @@ fn ce_asked(numbers: &[u64], bytes: &[u8]) -> Result<CeTwoPcPacket, Refusal>
     }
     Ok(ce_packet(numbers, filled(bytes, bytes_len)))
 }
+
+// What follows for the other family has the same four functions: a packet asked for, handed out, read and written. They
+// differ in each number's place, and a trait of both would name every such place once more.
 
 // 1 and any number, or 0 and 0.
 fn pair_fits(there: u64, n: u64) -> bool
