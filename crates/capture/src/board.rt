@@ -1,6 +1,7 @@
 // RULES none. A capture round inside: sets of positions, a mark each, and a lent table of numbers, a column of 64 for
 // each thing that is kept of a position. So a slot copies neither positions nor payloads.
-// specs/Boards.antt tells which state of the rules board and table show.
+// specs/Boards.antt tells which state of the rules board and table show. A position is a plain number, since it comes
+// from marks and counts: each function asks that it be below 64, where a type for it would ask so at each making.
 ghost use Rattle.std.specs.Prelude.{◌≡◌, ℕ, ◌<◌, ◌≤◌, true, false, List, length, ◌==◌};
 ghost use Rattle.loops.specs.Pick.{either};
 ghost use Rattle.marks.specs.Marks.{has};
@@ -103,6 +104,7 @@ pub(crate) fn holds(p: Phases, i: usize) -> bool
         || sets::is_marked(p.aborted, i)
 }
 
+// As state_by, of other sets and values: one function for both would be told all five.
 #[tactic(auto, unfolding(crate::specs::Boards::phase_by))]
 fn phase_by(p: Phases, i: usize) -> TwoPcPhase
     ensures { result ≡ phase_by p i }

@@ -160,6 +160,7 @@ fn dry_run(
     let mut d = b;
     let mut left = length;
     let mut due: u64 = 0;
+    // No `for`: a step takes one slot or many.
     while 0 < left {
         if d.ended {
             return CeRun { board: d, due };
@@ -206,6 +207,7 @@ fn record_run(
     let mut d = b;
     let mut left = length;
     let mut at: usize = 0;
+    // No `for`: a step takes one slot or many.
     while 0 < left {
         if d.ended {
             return;

@@ -1,5 +1,5 @@
 // RULES 7.1 and 7.2. Ported from node.rs: a position's state, its counts, and one slot's tick. The payload is held
-// beside the node.
+// beside the node. How many of the 64 are positions is the graph's to say, so n is passed beside them and kept once.
 ghost use Rattle.std.specs.Prelude.{◌≡◌, ℕ, ◌&&◌, ◌||◌, ◌==◌, ◌<◌, nat_lt};
 ghost use Rattle.loops.specs.Upto.{upto};
 ghost use Rattle.marks.specs.Marks.{has};

@@ -1,5 +1,7 @@
 // RULES 17. State as a lent list of 64-bit numbers, for entries that can be lent numbers and nothing else. A place
 // past the end reads as 0, and nothing is put there, so that no call has to be refused for the length of its list.
+// C lends one list for all of a state, so list and place are passed on; a part of it that was lent instead would have to
+// be made, and could be empty, at each call.
 ghost use Rattle.std.specs.Prelude.{◌≡◌, ◌+◌, ◌≤◌, get_or, set};
 ghost use Rattle.std.proofs.lemmas.List.Edits.{sets};
 ghost use Rattle.engines_c.specs.Numbers.{cell, node_at, nodes_at, node_numbers, put_nodes, metrics_at, metrics_numbers, network_at, put_network};
@@ -90,6 +92,7 @@ pub fn put_node(xs: &mut [u64], at: usize, k: usize, v: Node)
     put_run(xs, at, k, &values);
 }
 
+// (payloads.rt puts payloads in the same way: one loop for both would be told how, in no fewer lines.)
 pub fn put_nodes(xs: &mut [u64], at: usize, nodes: [Node; limits::POSITIONS])
     ensures { xs.new ≡ put_nodes at nodes xs.old }
 {

@@ -10,7 +10,7 @@ use merges::merging::{Held, Payload};
 use packets::{Bitmap, CeTwoPcPacket, Data};
 use packets_c::console;
 
-// A number above 2 reads as a packet.
+// A number above 2 reads as a packet. (No `From` here or below: the enums are other crates' own.)
 fn held_numbered(n: u64) -> Held
     ensures { result ≡ held_numbered n }
 {

@@ -1,5 +1,5 @@
 // RULES 9. Ported from phy/ci.rs: the identical flood, slot by slot. What is flooded is the same for everybody, so
-// only its length counts here.
+// only its length counts here. Words are lent for one call and the cursor stays between slots, so both are passed.
 ghost use Rattle.std.specs.Prelude.{◌≡◌, ◌<◌};
 ghost use Rattle.engines.specs.Marked.{over_marks};
 ghost use Rattle.engines.specs.Rounds.{placed, Surveyed};
@@ -245,6 +245,7 @@ fn survey(words: &[u64], conf: RoundConf, bytes: u64, f: FloodRun) -> FloodSurve
     let mut run = f;
     let mut due: u64 = 0;
     let mut left = conf.length;
+    // No `for`: a step takes one slot or many.
     while 0 < left {
         if run.over {
             return FloodSurvey { run, due };
@@ -306,6 +307,7 @@ pub fn write_rows(words: &[u64], conf: RoundConf, bytes: u64, part: &mut [u64], 
     let mut run = f;
     let mut at: usize = 0;
     let mut left = conf.length;
+    // No `for`: a step takes one slot or many.
     while 0 < left {
         if run.over {
             return;
