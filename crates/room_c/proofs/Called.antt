@@ -1,7 +1,6 @@
 -- The entry's calls are a list of the room's calls, and what each tells stays. Assumes nothing.
 use mathlib.Core.Bool.{Bool, false}
 use mathlib.Core.List.{List, [], ◌∷◌, ◌++◌}
-use mathlib.Core.Option.{Option, none, some}
 use mathlib.Core.Path.{◌≡◌, refl, sym, ap, ◌∙◌}
 use Prim.Native.Nat.{ℕ, zero, suc, ◌+◌, ◌*◌, ◌/◌, ◌<◌, ◌≤◌}
 use native.Mathlib.Nat.{add-zero}
@@ -16,8 +15,7 @@ use Rattle.packets.specs.declared.Data.{Data}
 use Rattle.pipeline.specs.Pipeline.{data_of}
 use Rattle.room.specs.declared.room.Room.{Room}
 use Rattle.engines.specs.Metrics.{link_pdr_of, flood_coverage_of}
-use Rattle.std.specs.Prelude.{Ok, Err}
-use Rattle.std.specs.Prelude as std
+use Rattle.std.specs.Prelude.{Option, None, Some, Ok, Err}
 use Rattle.std.specs.Result.{result_and, result_unwrap_or}
 use Rattle.limits.specs.Refusals.{Tested}
 use Rattle.pipeline.specs.declared.two_pc_pipeline.LogEntry.{LogEntry}
@@ -65,8 +63,8 @@ after_more (c ∷ cs) ds r = after_more cs ds (handed c r)
 -- one call or none
 made : (i : ℕ) (c : Option Call) (w : Calling) → (called i c w).room ≡ after (listed c) w.room
 unfolding called after
-made i none w = refl
-made i (some c) w = refl
+made i None w = refl
+made i (Some c) w = refl
 
 led : (ws calls : List ℕ) (w : Calling) (k : ℕ) → (play_first k ws calls w).room ≡ room_in ws calls w k
 unfolding play_first upto calls_in after
@@ -96,16 +94,16 @@ pending_full r v t =
     unwrapped (λ (q : PendingReading). Full q.«data») (of_pipeline r v) (pending_in r.pipeline (state_at r v) t) nothing_held
     (data_full _ t) (data_full false 0)
 
-few_entry : (e : std.Option LogEntry) → length (entry_numbers e) ≤ 3
-few_entry std.None = omega arith
-few_entry (std.Some e) = omega arith
+few_entry : (e : Option LogEntry) → length (entry_numbers e) ≤ 3
+few_entry None = omega arith
+few_entry (Some e) = omega arith
 
 few_record : (x : RecordReading) → length (record_numbers x) ≤ 39
 few_record x = by x.entry
   where
-    by : (e : std.Option LogEntry) → length (entry_numbers e ++ x.start ∷ x.end ∷ []) ≤ 39
-    by std.None = omega arith
-    by (std.Some e) = omega arith
+    by : (e : Option LogEntry) → length (entry_numbers e ++ x.start ∷ x.end ∷ []) ≤ 39
+    by None = omega arith
+    by (Some e) = omega arith
 
 -- 39 numbers behind the refusal, and two floats
 pub record Few (s : Said) : Type 0 where
@@ -115,10 +113,10 @@ pub record Few (s : Said) : Type 0 where
 few : {k : ℕ} {xs : List ℕ} → length xs ≤ 39 → Few (plain k xs)
 few h = record { numbers = h; floats = omega arith }
 
-few_ratio : (x : std.Option Float) → Few (said (a_ratio x))
+few_ratio : (x : Option Float) → Few (said (a_ratio x))
 unfolding said
-few_ratio std.None = record { numbers = omega arith; floats = omega arith }
-few_ratio (std.Some x) = record { numbers = omega arith; floats = omega arith }
+few_ratio None = record { numbers = omega arith; floats = omega arith }
+few_ratio (Some x) = record { numbers = omega arith; floats = omega arith }
 
 few_read : (q : Reading) (r : Room) → Few (said (answer_of q r))
 unfolding said answer_of
@@ -139,31 +137,31 @@ few_read proposal_outcome r = few (omega arith)
 few_read (node v) r = few (omega arith)
 few_read (packet_text v out) r = record { numbers = omega arith; floats = omega arith }
 few_read (log_len v) r = few (omega arith)
-few_read (log_entry v k) r = few (omega (arith, few_entry (result_unwrap_or (log_entry_of r v k) std.None)))
+few_read (log_entry v k) r = few (omega (arith, few_entry (result_unwrap_or (log_entry_of r v k) None)))
 few_read (pending v t) r = few (omega (arith, pending_full r v t))
 few_read («record» k) r = few (few_record (result_unwrap_or (record_of r k) no_record))
 
 few_call : (c : Option Call) (r : Room) → Few (said_in c r)
 unfolding said_in call_said
-few_call none r = few (omega arith)
-few_call (some (Propose v)) r = few (omega arith)
-few_call (some (CaptureRound ws cursor rows used)) r = few (omega arith)
-few_call (some (PipelineRound ws cursor rows used)) r = few (omega arith)
-few_call (some (Read q)) r = few_read q r
+few_call None r = few (omega arith)
+few_call (Some (Propose v)) r = few (omega arith)
+few_call (Some (CaptureRound ws cursor rows used)) r = few (omega arith)
+few_call (Some (PipelineRound ws cursor rows used)) r = few (omega arith)
+few_call (Some (Read q)) r = few_read q r
 
 -- ---- what is told
 
 put_numbers : (i : ℕ) (c : Option Call) (w : Calling)
     → (called i c w).told ≡ sets w.told (i * numbers_each) (told_in (said_in c w.room))
 unfolding called said_in
-put_numbers i none w = refl
-put_numbers i (some c) w = refl
+put_numbers i None w = refl
+put_numbers i (Some c) w = refl
 
 put_floats : (i : ℕ) (c : Option Call) (w : Calling)
     → (called i c w).floats ≡ sets w.floats (i * floats_each) (said_in c w.room).floats
 unfolding called said_in
-put_floats i none w = refl
-put_floats i (some c) w = refl
+put_floats i None w = refl
+put_floats i (Some c) w = refl
 
 module _ (ws calls : List ℕ) (w : Calling) where
   abbrev said_at : ℕ → Calling → Said

@@ -1,6 +1,5 @@
 pub mod Tabled
 pub mod Making
-pub mod Running
 pub mod Putting
 pub mod Called
 pub mod Rounding

@@ -1,7 +1,7 @@
 -- Which call the numbers of the table's parts are, and what the readings of each part leave. Assumes nothing.
 use mathlib.Core.List.{List, [], ◌∷◌, ◌++◌, map}
 use mathlib.Core.Logic.{◌⊎◌, inl, inr}
-use mathlib.Core.Option.{Option, none, some}
+use Rattle.std.specs.Prelude.{Option, None, Some}
 use mathlib.Core.Path.{◌≡◌, refl, sym, ◌∙◌, ap}
 use Prim.Native.Nat.{ℕ, zero, suc, ◌+◌, ◌-◌, ◌<◌, ◌≤◌}
 use native.Mathlib.Omega.{arith}
@@ -52,32 +52,32 @@ every_at P (x ∷ l) d t p (suc k) = every_at P l d t.1 p k
 
 module _ (ws rows text : List ℕ) (a b c : ℕ) where
   abbrev at : ℕ → Option Call
-  at which = get_or (call_table ws rows text a b c) which none
+  at which = get_or (call_table ws rows text a b c) which None
 
   pub whole_call : (which : ℕ) → 4 ≤ which → which < 18
-      → at which ≡ some (Read (get_or whole_readings (which - 4) proposal_outcome))
+      → at which ≡ Some (Read (get_or whole_readings (which - 4) proposal_outcome))
   unfolding call_table
   whole_call which h g =
       let k = which - 4 in
       let e : which ≡ 4 + k = omega arith in
       let t = call_table ws rows text a b c in
-      ap (λ (j : ℕ). get_or t j none) e ∙ sym (get_or-drop 4 t k none)
-      ∙ found (λ q. some (Read q)) whole_readings (part_readings text a b) proposal_outcome none k (omega arith)
+      ap (λ (j : ℕ). get_or t j None) e ∙ sym (get_or-drop 4 t k None)
+      ∙ found (λ q. Some (Read q)) whole_readings (part_readings text a b) proposal_outcome None k (omega arith)
 
   pub part_call : (which : ℕ) → 18 ≤ which → which < 24
-      → at which ≡ some (Read (get_or (part_readings text a b) (which - 18) («record» a)))
+      → at which ≡ Some (Read (get_or (part_readings text a b) (which - 18) («record» a)))
   unfolding call_table
   part_call which h g =
       let k = which - 18 in
       let e : which ≡ 18 + k = omega arith in
       let t = call_table ws rows text a b c in
-      ap (λ (j : ℕ). get_or t j none) e ∙ sym (get_or-drop 18 t k none)
-      ∙ found (λ q. some (Read q)) (part_readings text a b) [] («record» a) none k (omega arith)
+      ap (λ (j : ℕ). get_or t j None) e ∙ sym (get_or-drop 18 t k None)
+      ∙ found (λ q. Some (Read q)) (part_readings text a b) [] («record» a) None k (omega arith)
 
-  pub no_call : (which : ℕ) → (which ≡ 0) ⊎ (24 ≤ which) → at which ≡ none
+  pub no_call : (which : ℕ) → (which ≡ 0) ⊎ (24 ≤ which) → at which ≡ None
   unfolding call_table
   no_call which (inl e) = rw e
-  no_call which (inr h) = get_or-eq_default (call_table ws rows text a b c) none h
+  no_call which (inr h) = get_or-eq_default (call_table ws rows text a b c) None h
 
 -- ---- what a reading leaves alone
 

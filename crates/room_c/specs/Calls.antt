@@ -2,8 +2,7 @@
 -- left as that list leaves it, so that whatever holds of every such list holds of what the entry leaves. What the
 -- entry tells of each call is that call's answer in the room that it was made in, whatever calls came behind it.
 -- Assumes nothing: these are statements. They are proved in proofs/Called.antt.
-use Rattle.std.specs.Prelude.{List, [], ◌∷◌, ◌++◌, ◌≡◌, ℕ, zero, suc, ◌+◌, ◌*◌, ◌/◌, ◌<◌, Float, length, get_or}
-use Rattle.std.proofs.Math.Option.{Option, none, some}
+use Rattle.std.specs.Prelude.{List, [], ◌∷◌, ◌++◌, ◌≡◌, ℕ, zero, suc, ◌+◌, ◌*◌, ◌/◌, ◌<◌, Float, length, get_or, Option, None, Some}
 use Rattle.room.specs.declared.room.Room.{Room}
 use Rattle.demand.specs.Calls.{Call, after}
 use Rattle.room_c.specs.Answers.{Said, plain, told_in}
@@ -14,8 +13,8 @@ abbrev pub call_in : List ℕ → List ℕ → Calling → ℕ → Option Call
 call_in ws calls w i = call_at ws calls i (play_first i ws calls w)
 
 abbrev pub listed : Option Call → List Call
-listed none = []
-listed (some c) = c ∷ []
+listed None = []
+listed (Some c) = c ∷ []
 
 -- the calls among the first k
 unfoldable pub calls_in : List ℕ → List ℕ → Calling → ℕ → List Call
@@ -28,8 +27,8 @@ room_in ws calls w i = after (calls_in ws calls w i) w.room
 
 -- what a call answers in a room; what is no call has no refusal
 unfoldable pub said_in : Option Call → Room → Said
-said_in none r = plain 0 []
-said_in (some c) r = call_said c r
+said_in None r = plain 0 []
+said_in (Some c) r = call_said c r
 
 -- for any words, numbers, lent lists and room
 pub record PlayedByCalls (ws calls : List ℕ) (w : Calling) : Type 0 where

@@ -1,8 +1,7 @@
 -- RULES 17, entries on slices and numbers: a room opened and called by lent
 -- lists of numbers, and its account as such a list. A place past the end reads as 0, and nothing is put there. Assumes
 -- nothing.
-use Rattle.std.specs.Prelude.{ℕ, ◌+◌, ◌-◌, ◌*◌, ◌/◌, ◌%◌, ◌^◌, List, [], ◌∷◌, ◌++◌, map, eqb, Float, length, get_or, set}
-use Rattle.std.proofs.Math.Option.{Option, none, some}
+use Rattle.std.specs.Prelude.{ℕ, ◌+◌, ◌-◌, ◌*◌, ◌/◌, ◌%◌, ◌^◌, List, [], ◌∷◌, ◌++◌, map, eqb, Float, length, get_or, set, Option, None, Some}
 use Rattle.std.proofs.lemmas.List.Edits.{sets}
 use mir.Val.{bool_byte}
 use Rattle.loops.specs.Pick.{either}
@@ -114,8 +113,8 @@ part_said text a b which r = said (answer_of (get_or (part_readings text a b) (w
 -- round's cursor, a log's place or a transaction, c the rows used.
 unfoldable pub call_table : List ℕ → List ℕ → List ℕ → ℕ → ℕ → ℕ → List (Option Call)
 call_table ws rows text a b c =
-    none ∷ some (Propose a) ∷ some (CaptureRound ws b rows c) ∷ some (PipelineRound ws b rows c) ∷
-    map (λ q. some (Read q)) (whole_readings ++ part_readings text a b)
+    None ∷ Some (Propose a) ∷ Some (CaptureRound ws b rows c) ∷ Some (PipelineRound ws b rows c) ∷
+    map (λ q. Some (Read q)) (whole_readings ++ part_readings text a b)
 
 -- The lent lists that calls write to, and the room.
 pub record Calling : Type 0 where
@@ -127,7 +126,7 @@ pub record Calling : Type 0 where
 
 -- a number that is no place of the table is no call
 unfoldable pub call_by : List ℕ → Calling → ℕ → ℕ → ℕ → ℕ → Option Call
-call_by ws w which a b c = get_or (call_table ws w.rows w.text a b c) which none
+call_by ws w which a b c = get_or (call_table ws w.rows w.text a b c) which None
 
 -- call i of the list: four numbers, with the lists as the calls before it left them
 unfoldable pub call_at : List ℕ → List ℕ → ℕ → Calling → Option Call
@@ -166,9 +165,9 @@ abbrev pub untold : ℕ → List ℕ → List ℕ
 untold i told = set told (i * numbers_each) 0
 
 unfoldable pub called : ℕ → Option Call → Calling → Calling
-called i none w =
+called i None w =
     record { rows = w.rows; told = untold i w.told; floats = w.floats; text = w.text; room = w.room }
-called i (some c) w =
+called i (Some c) w =
     let s = call_said c w.room in
     record {
       rows = rows_left w.rows c w.room;

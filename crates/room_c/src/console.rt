@@ -46,6 +46,7 @@ const FLOATS: usize = 2;
 
 // ---- the opening
 
+#[tactic(auto, unfolding(crate::specs::Console::kind_numbered))]
 fn kind_numbered(k: u64) -> RoomKind
     ensures { result ≡ kind_numbered k }
 {
@@ -70,6 +71,7 @@ fn settings_by(xs: &[u64], loss_rate: f64, abort_probability: f64) -> Settings
     }
 }
 
+#[tactic(auto, unfolding(crate::specs::Console::asked_by))]
 fn asked_by(xs: &[u64], loss_rate: f64, abort_probability: f64, graph: NetworkGraph) -> Asked
     ensures { result ≡ asked_by xs.now loss_rate abort_probability graph }
 {
@@ -97,6 +99,7 @@ fn no_graph() -> NetworkGraph
 
 // The refusal of the rows, or else of the opening. Rows that are refused make a graph of no positions, and so the room
 // has none either.
+#[tactic(auto, unfolding(crate::specs::Console::opening_by))]
 fn open_by(xs: &[u64], loss_rate: f64, abort_probability: f64, links: &[u64]) -> Opening
     ensures { result ≡ opening_by xs.now loss_rate abort_probability links.now }
 {
@@ -108,20 +111,22 @@ fn open_by(xs: &[u64], loss_rate: f64, abort_probability: f64, links: &[u64]) ->
     if refusal == 0 {
         return o;
     }
-    let room = o.room;
-    Opening { refusal, room }
+    Opening {
+        refusal,
+        room: o.room,
+    }
 }
 
 // ---- the calls
 
+#[tactic(auto, unfolding(crate::specs::Console::call_said, demand::specs::Calls::handed))]
 fn propose(told: &mut [u64], at: usize, r: Room, v: usize) -> Room
     ensures value { result ≡ handed (Propose v) r }
     ensures told_after { told.new ≡ sets told.old at (told_in (call_said (Propose v) r)) }
 {
     let p = r.propose(v);
     numbers::put(told, at, p.refusal);
-    let room = p.room;
-    room
+    p.room
 }
 
 fn tell_round(told: &mut [u64], at: usize, a: RoundAnswer) -> Room
@@ -130,12 +135,12 @@ fn tell_round(told: &mut [u64], at: usize, a: RoundAnswer) -> Room
 {
     let values = [a.refusal, a.cursor as u64, a.used as u64];
     numbers::put_run(told, at, 0, &values);
-    let room = a.room;
-    room
+    a.room
 }
 
 // A reading of the whole room. The numbers are C's, and each is told where it is read: an enum of the readings would
 // name all of them twice more.
+#[tactic(auto, unfolding(crate::specs::Answers::said, readings::specs::Calls::answer_of))]
 fn read_whole(told: &mut [u64], at: usize, floats: &mut [f64], f: usize, which: u64, r: &Room)
     requires { 4 ≤ which }
     ensures told_after { told.new ≡ sets told.old at (told_in (whole_said which r.now)) }
@@ -160,6 +165,7 @@ fn read_whole(told: &mut [u64], at: usize, floats: &mut [f64], f: usize, which: 
 }
 
 // A reading of a position or a place.
+#[tactic(auto, unfolding(crate::specs::Answers::said, readings::specs::Calls::answer_of))]
 fn read_part(told: &mut [u64], at: usize, text: &mut [u8], which: u64, a: usize, b: usize, r: &Room)
     requires { 18 ≤ which }
     ensures told_after { told.new ≡
@@ -177,6 +183,7 @@ fn read_part(told: &mut [u64], at: usize, text: &mut [u8], which: u64, a: usize,
 }
 
 // One call; what is none tells refusal 0.
+#[tactic(auto, using(crate::proofs::Making::proposed, crate::proofs::Making::none_made))]
 fn call(
     words: &[u64],
     rows: &mut [u64],
@@ -235,6 +242,7 @@ fn call(
 }
 
 // Call i of the list.
+#[tactic(auto, unfolding(crate::specs::Console::call_at))]
 fn call_at(
     words: &[u64],
     rows: &mut [u64],
@@ -297,53 +305,47 @@ fn play_calls(
 {
     let count = calls.len() / 4;
     let mut r = start;
-    let mut i: usize = 0;
-    while i < count {
+    for i in 0..count {
         r = call_at(words, rows, calls, told, floats, text, i, r);
-        i += 1;
     }
     r
 }
 
 // ---- the account
 
-fn played_by(r: Room) -> Played
-    ensures { result ≡ played_by r }
+fn played_by(r: &Room) -> Played
+    ensures { result ≡ played_by r.now }
 {
-    let network = r.network;
-    let part = r.pipeline;
     Played {
         refusal: 0,
         cursor: 0,
         used: 0,
         count: 0,
-        network,
-        part,
+        network: r.network,
+        part: r.pipeline,
     }
 }
 
-fn term_numbers(r: Room) -> [u64; 4]
-    ensures { result ≡ term_numbers r }
+#[tactic(auto, unfolding(crate::specs::Console::term_numbers))]
+fn term_numbers(r: &Room) -> [u64; 4]
+    ensures { result ≡ term_numbers r.now }
 {
-    let x = r.capture;
+    let x = &r.capture;
     [
         x.term,
         x.initiator as u64,
-        x.proposed as u64,
-        x.raised as u64,
+        u64::from(x.proposed),
+        u64::from(x.raised),
     ]
 }
 
-fn put_room(xs: &mut [u64], r: Room)
-    ensures { xs.new ≡ put_room r xs.old }
+#[tactic(auto, unfolding(crate::specs::Console::put_room))]
+fn put_room(xs: &mut [u64], r: &Room)
+    ensures { xs.new ≡ put_room r.now xs.old }
 {
-    let p = played_by(r);
-    let values = term_numbers(r);
-    let x = r.capture;
-    let held = x.held;
-    pipes::put_played(xs, p);
-    numbers::put_run(xs, 9749, 0, &values);
-    payloads::put_held(xs, 9753, held);
+    pipes::put_played(xs, played_by(r));
+    numbers::put_run(xs, 9749, 0, &term_numbers(r));
+    payloads::put_held(xs, 9753, r.capture.held);
 }
 
 // ---- the entry
@@ -351,6 +353,7 @@ fn put_room(xs: &mut [u64], r: Room)
 // The opening, then the calls in their order. The answer is the opening's refusal, 0 for none; a refused opening
 // leaves every list as it was.
 #[unsafe(no_mangle)]
+#[tactic(auto, unfolding(crate::specs::Console::run_from))]
 pub extern "C" fn room_run(
     setup: &[u64],
     loss_rate: f64,
@@ -380,8 +383,7 @@ pub extern "C" fn room_run(
     if o.refusal != 0 {
         return o.refusal;
     }
-    let start = o.room;
-    let room = play_calls(words, rows, calls, told, floats, text, start);
-    put_room(out, room);
+    let room = play_calls(words, rows, calls, told, floats, text, o.room);
+    put_room(out, &room);
     0
 }

@@ -1,11 +1,6 @@
-use mathlib.Core.Logic.{inl, inr}
 use native.Mathlib.Omega.{arith}
-use Rattle.room_c.proofs.Making.{proposed, captured, piped, whole_read, part_read, none_made}
+use Rattle.room_c.proofs.Making.{captured, piped, whole_read, part_read}
 use Rattle.room_c.proofs.console.call.Goals as goal
-use Rattle.room_c.proofs.console.call.Goals.{in_default-via-then-which-lt1, in_default-via-else-which-lt1+else-which-lt18+else-which-lt24}
-
-pub returns-in-1 : goal.returns-in-1
-returns-in-1 c = proposed _ _ _ _ _ _ _ c.in-1.is c.propose.ensures.value c.propose.ensures.told_after
 
 pub returns-in-2 : goal.returns-in-2
 returns-in-2 c = captured _ _ _ _ _ _ _ c.in-2.is c.capture_round-x.ensures.value c.capture_round-x.ensures.rows_after (c.tell_round.ensures.value, c.tell_round.ensures.told_after)
@@ -18,12 +13,3 @@ returns-in-4-to-17 c = whole_read _ _ _ _ _ _ _ (omega arith) (omega arith) (c.r
 
 pub returns-in-18-to-23 : goal.returns-in-18-to-23
 returns-in-18-to-23 c = part_read _ _ _ _ _ _ _ (omega arith) (omega arith) (c.read_part.ensures.told_after, c.read_part.ensures.text_after)
-
-pub returns-in_default : goal.returns-in_default
-returns-in_default c =
-    none_made _ _ _ _ _ _ _
-    (elim c.in_default.branch [
-      | in_default-via-then-which-lt1 w ↦ inl (omega arith)
-      | in_default-via-else-which-lt1+else-which-lt18+else-which-lt24 w ↦ inr (omega arith)
-    ])
-    c.put.ensures
