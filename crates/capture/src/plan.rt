@@ -1,7 +1,7 @@
 // RULES 8.3 and 8.4. The plan of a capture slot: which positions recover, and whom each target hears. It takes every
-// word that the slot takes, and needs states, last progress and links alone; what is merged by it comes after. Words are
-// lent for one call and the cursor stays between slots, so both are passed; so are links and loss, which a room keeps
-// apart.
+// word that the slot takes, and needs states, last progress and links alone; what is merged by it comes after. Words
+// are lent for one call and the cursor stays between slots, so both are passed; so are links and loss, which a room
+// keeps apart.
 ghost use Rattle.std.specs.Prelude.{◌≡◌, ◌+◌, ◌<◌, ◌≤◌, ℕ, List, slice_index};
 ghost use Rattle.engines.specs.Marked.{over_marks};
 ghost use Rattle.capture.specs.Plan.{timed_out, tossed1, note_at, examine1, first_kept, capture_of, whom, tallied, capture_at, targets_of};

@@ -2,9 +2,9 @@
 ghost use Rattle.std.specs.Prelude.{◌≡◌, ◌+◌, ◌%◌, ◌<◌};
 ghost use Rattle.engines.specs.Words.{unit_of, next_of, coin_of, lost_of, pick_of, swap_step, shuffled};
 
-// The place of the next word, and whether a word was asked for past the end. The cursor may be any number. C is told the
-// place whether or not words ran short, so the flag stands beside it and not around it. Words and cursor are passed
-// apart: rooms keep the cursor between calls, and are lent words for one call alone.
+// The place of the next word, and whether a word was asked for past the end. The cursor may be any number. C is told
+// the place whether or not words ran short, so the flag stands beside it and not around it. Words and cursor are
+// passed apart: rooms keep the cursor between calls, and are lent words for one call alone.
 #[derive(Clone, Copy)]
 pub struct Draw {
     pub at: usize,

@@ -1,6 +1,6 @@
 // RULES 17. State as a lent list of 64-bit numbers, for entries that can be lent numbers and nothing else. A place
-// past the end reads as 0, and nothing is put there, so that no call has to be refused for the length of its list.
-// C lends one list for all of a state, so list and place are passed on; a part of it that was lent instead would have to
+// past the end reads as 0, and nothing is put there, so that no call has to be refused for the length of its list. C
+// lends one list for all of a state, so list and place are passed on; a part of it that was lent instead would have to
 // be made, and could be empty, at each call.
 ghost use Rattle.std.specs.Prelude.{◌≡◌, ◌+◌, ◌≤◌, get_or, set};
 ghost use Rattle.std.proofs.lemmas.List.Edits.{sets};
