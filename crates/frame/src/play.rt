@@ -53,7 +53,8 @@ fn told(number: u64) -> Result<(), Refusal>
 
 // ---- the room
 
-// The field of the exponent is full, and that of the digits is not 0.
+// The field of the exponent is full, and that of the digits is not 0. (The test program packet_cases has this and the
+// next again: it leans on crates far below this one.)
 fn is_nan(bits: u64) -> bool
     ensures { result ≡ nan_bits binary64 bits }
 {
@@ -119,7 +120,8 @@ fn propose(conf: RoomConf, v: usize, s: &mut Captured) -> Result<(), Refusal>
     Ok(())
 }
 
-// The row that a round writes is not read.
+// The row that a round writes is not read. The answer goes where the old one stood: handed back in a Result it is
+// copied twice more, which made pipeline frames slower by a quarter.
 #[tactic(auto, unfolding(crate::specs::Play::capturing))]
 fn capture_next(words: &[u64], conf: RoomConf, s: &mut Captured) -> Result<(), Refusal>
     ensures { left_by result s.new ≡ capturing words.now conf s.old }
@@ -165,6 +167,8 @@ fn play_capture(words: &[u64], conf: RoomConf, t: usize) -> Result<u64, Refusal>
 
 // ---- the rounds of a pipeline room
 
+// The same as `capture_next`, of another call and another answer: one function of both would be given the call as a
+// closure, and be no shorter.
 #[tactic(auto, unfolding(crate::specs::Play::pipeline_turn))]
 fn pipeline_turn(words: &[u64], conf: RoomConf, s: &mut PipelineAnswer) -> Result<(), Refusal>
     ensures { left_by result s.new ≡ pipeline_turn words.now conf s.old }

@@ -57,7 +57,8 @@ fn feed_lines(text: &[u8], n: usize, words: &mut [u64], out: &mut [u8], used: us
 }
 
 // The lines that end in the text, whose first n bytes are a line so far in which no line ends. Their answers are put
-// behind the first `used` bytes of the output.
+// behind the first `used` bytes of the output. Words and output are lent apart: who calls reads the output between
+// calls, so a struct of the two loans would be made anew for each.
 pub fn feed(
     text: &[u8],
     n: usize,

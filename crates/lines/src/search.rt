@@ -11,7 +11,7 @@ const END: u8 = b'\n';
 const BLOCK: usize = 32;
 
 // Whether no line ends in a block. All bytes are looked at, also behind an end: a loop without a branch takes many at
-// once. Of 60000 bytes without an end `position` alone takes 27 us and more, blocks with `all` as much, and this 2 us.
+// once. Of 60000 bytes without an end this takes 2 us, blocks with `all` 30, and `position` without blocks 30.
 fn is_unbroken(block: &[u8]) -> bool
     ensures { result ≡ true → Unbroken block.now 0 (length block.now) }
 {
