@@ -238,11 +238,7 @@ fn play_in(f: Frame, words: &[u64], graph: NetworkGraph) -> Result<u64, Refusal>
 fn links_of(f: Frame) -> Result<NetworkGraph, Refusal>
     ensures { result ≡ links_of f }
 {
-    NetworkGraph::from_topology(
-        f.topology as u64,
-        f.positions as usize,
-        f.argument as usize,
-    )
+    NetworkGraph::from_topology(f.topology as u64, f.positions as usize, f.argument as usize)
 }
 
 // Refusals 2 and 3, and then the room.
