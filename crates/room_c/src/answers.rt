@@ -21,14 +21,7 @@ use pipeline::two_pc_pipeline::LogEntry;
 use readings::readings::{PendingReading, RecordReading};
 use room::room::RoomKind;
 
-// ---- readings that are never refused
-
-// A refusal, and one number behind it.
-pub fn tell(told: &mut [u64], refusal: u64, value: u64)
-    ensures { told.new ≡ sets told.old 0 (refusal ∷ value ∷ []) }
-{
-    numbers::put_run(told, 0, 0, &[refusal, value]);
-}
+// ---- numbers of enums, and counts
 
 // The kinds and outcomes are other crates' enums, so that no From can stand here; and C counts both from 1.
 pub fn kind_number(kind: RoomKind) -> u64
@@ -63,7 +56,7 @@ pub fn tell_metrics(told: &mut [u64], m: MetricsCollector)
 pub fn tell_number(told: &mut [u64], q: Result<u64, Refusal>)
     ensures { told.new ≡ sets told.old 0 (told_in (said (maybe_number q))) }
 {
-    tell(told, refusals::answer(q), q.unwrap_or(0));
+    numbers::put_run(told, 0, 0, &[refusals::answer(q), q.unwrap_or(0)]);
 }
 
 #[tactic(auto, unfolding(crate::specs::Answers::said))]
@@ -71,13 +64,13 @@ pub fn tell_outcome(told: &mut [u64], q: Result<ProposalOutcome, Refusal>)
     ensures { told.new ≡ sets told.old 0 (told_in (said (an_outcome q))) }
 {
     let outcome = q.unwrap_or(ProposalOutcome::TimedOut);
-    tell(told, refusals::answer(q), outcome_number(outcome));
+    numbers::put_run(told, 0, 0, &[refusals::answer(q), outcome_number(outcome)]);
 }
 
 pub fn tell_text(told: &mut [u64], q: Result<usize, Refusal>)
     ensures { told.new ≡ sets told.old 0 (answer_of q ∷ result_unwrap_or q 0 ∷ []) }
 {
-    tell(told, refusals::answer(q), q.unwrap_or(0) as u64);
+    numbers::put_run(told, 0, 0, &[refusals::answer(q), q.unwrap_or(0) as u64]);
 }
 
 #[tactic(auto, unfolding(crate::specs::Answers::said))]
@@ -197,9 +190,9 @@ pub fn tell_ratio(told: &mut [u64], floats: &mut [f64], x: Option<f64>)
     ensures floats_after { floats.new ≡ sets floats.old 0 (said (a_ratio x)).floats }
 {
     match x {
-        None => tell(told, 0, 0),
+        None => tell_number(told, Ok(0)),
         Some(y) => {
-            tell(told, 0, 1);
+            tell_number(told, Ok(1));
             put_float(floats, 0, y);
         }
     }

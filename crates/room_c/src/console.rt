@@ -46,6 +46,7 @@ const FLOATS: usize = 2;
 
 // ---- the opening
 
+// Every number is a kind here, as C needs it; and no From can stand here for another crate's enum.
 #[tactic(auto, unfolding(crate::specs::Console::kind_numbered))]
 fn kind_numbered(k: u64) -> RoomKind
     ensures { result ≡ kind_numbered k }
@@ -147,12 +148,12 @@ fn read_whole(told: &mut [u64], floats: &mut [f64], which: u64, r: &Room)
     ensures floats_after { floats.new ≡ sets floats.old 0 (whole_said which r.now).floats }
 {
     match which {
-        4 => answers::tell(told, 0, answers::kind_number(reading::kind(r))),
-        5 => answers::tell(told, 0, reading::num_nodes(r) as u64),
+        4 => answers::tell_number(told, Ok(answers::kind_number(reading::kind(r)))),
+        5 => answers::tell_number(told, Ok(reading::num_nodes(r) as u64)),
         6 => answers::tell_settings(told, floats, reading::settings(r)),
-        7 => answers::tell(told, 0, reading::slot(r)),
-        8 => answers::tell(told, 0, reading::next_row(r)),
-        9 => answers::tell(told, 0, reading::bytes_sent(r)),
+        7 => answers::tell_number(told, Ok(reading::slot(r))),
+        8 => answers::tell_number(told, Ok(reading::next_row(r))),
+        9 => answers::tell_number(told, Ok(reading::bytes_sent(r))),
         10 => answers::tell_metrics(told, reading::metrics(r)),
         11 => answers::tell_ratio(told, floats, reading::link_pdr(r)),
         12 => answers::tell_ratio(told, floats, reading::flood_coverage(r)),
