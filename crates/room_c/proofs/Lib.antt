@@ -1,5 +1,6 @@
 pub mod Tabled
 pub mod Making
+pub mod Parts
 pub mod Putting
 pub mod Called
 pub mod Rounding

@@ -46,6 +46,7 @@ const FLOATS: usize = 2;
 
 // ---- the opening
 
+// Every number is a kind here, as C needs it; and no From can stand here for another crate's enum.
 #[tactic(auto, unfolding(crate::specs::Console::kind_numbered))]
 fn kind_numbered(k: u64) -> RoomKind
     ensures { result ≡ kind_numbered k }
@@ -120,69 +121,69 @@ fn open_by(xs: &[u64], loss_rate: f64, abort_probability: f64, links: &[u64]) ->
 // ---- the calls
 
 #[tactic(auto, unfolding(crate::specs::Console::call_said, demand::specs::Calls::handed))]
-fn propose(told: &mut [u64], at: usize, r: Room, v: usize) -> Room
+fn propose(told: &mut [u64], r: Room, v: usize) -> Room
     ensures value { result ≡ handed (Propose v) r }
-    ensures told_after { told.new ≡ sets told.old at (told_in (call_said (Propose v) r)) }
+    ensures told_after { told.new ≡ sets told.old 0 (told_in (call_said (Propose v) r)) }
 {
     let p = r.propose(v);
-    numbers::put(told, at, p.refusal);
+    numbers::put(told, 0, p.refusal);
     p.room
 }
 
-fn tell_round(told: &mut [u64], at: usize, a: RoundAnswer) -> Room
+fn tell_round(told: &mut [u64], a: RoundAnswer) -> Room
     ensures value { result ≡ a.room }
-    ensures told_after { told.new ≡ sets told.old at (told_in (round_said a)) }
+    ensures told_after { told.new ≡ sets told.old 0 (told_in (round_said a)) }
 {
     let values = [a.refusal, a.cursor as u64, a.used as u64];
-    numbers::put_run(told, at, 0, &values);
+    numbers::put_run(told, 0, 0, &values);
     a.room
 }
 
 // A reading of the whole room. The numbers are C's, and each is told where it is read: an enum of the readings would
 // name all of them twice more.
 #[tactic(auto, unfolding(crate::specs::Answers::said, readings::specs::Calls::answer_of))]
-fn read_whole(told: &mut [u64], at: usize, floats: &mut [f64], f: usize, which: u64, r: &Room)
+fn read_whole(told: &mut [u64], floats: &mut [f64], which: u64, r: &Room)
     requires { 4 ≤ which }
-    ensures told_after { told.new ≡ sets told.old at (told_in (whole_said which r.now)) }
-    ensures floats_after { floats.new ≡ sets floats.old f (whole_said which r.now).floats }
+    ensures told_after { told.new ≡ sets told.old 0 (told_in (whole_said which r.now)) }
+    ensures floats_after { floats.new ≡ sets floats.old 0 (whole_said which r.now).floats }
 {
     match which {
-        4 => answers::tell(told, at, 0, answers::kind_number(reading::kind(r))),
-        5 => answers::tell(told, at, 0, reading::num_nodes(r) as u64),
-        6 => answers::tell_settings(told, at, floats, f, reading::settings(r)),
-        7 => answers::tell(told, at, 0, reading::slot(r)),
-        8 => answers::tell(told, at, 0, reading::next_row(r)),
-        9 => answers::tell(told, at, 0, reading::bytes_sent(r)),
-        10 => answers::tell_metrics(told, at, reading::metrics(r)),
-        11 => answers::tell_ratio(told, at, floats, f, reading::link_pdr(r)),
-        12 => answers::tell_ratio(told, at, floats, f, reading::flood_coverage(r)),
-        13 => answers::tell_number(told, at, reading::term(r)),
-        14 => answers::tell_number(told, at, reading::round(r)),
-        15 => answers::tell_number(told, at, reading::stopped(r)),
-        16 => answers::tell_number(told, at, reading::initiator(r)),
-        _ => answers::tell_outcome(told, at, reading::proposal_outcome(r)),
+        4 => answers::tell_number(told, Ok(answers::kind_number(reading::kind(r)))),
+        5 => answers::tell_number(told, Ok(reading::num_nodes(r) as u64)),
+        6 => answers::tell_settings(told, floats, reading::settings(r)),
+        7 => answers::tell_number(told, Ok(reading::slot(r))),
+        8 => answers::tell_number(told, Ok(reading::next_row(r))),
+        9 => answers::tell_number(told, Ok(reading::bytes_sent(r))),
+        10 => answers::tell_metrics(told, reading::metrics(r)),
+        11 => answers::tell_ratio(told, floats, reading::link_pdr(r)),
+        12 => answers::tell_ratio(told, floats, reading::flood_coverage(r)),
+        13 => answers::tell_number(told, reading::term(r)),
+        14 => answers::tell_number(told, reading::round(r)),
+        15 => answers::tell_number(told, reading::stopped(r)),
+        16 => answers::tell_number(told, reading::initiator(r)),
+        _ => answers::tell_outcome(told, reading::proposal_outcome(r)),
     }
 }
 
 // A reading of a position or a place.
 #[tactic(auto, unfolding(crate::specs::Answers::said, readings::specs::Calls::answer_of))]
-fn read_part(told: &mut [u64], at: usize, text: &mut [u8], which: u64, a: usize, b: usize, r: &Room)
+fn read_part(told: &mut [u64], text: &mut [u8], which: u64, a: usize, b: usize, r: &Room)
     requires { 18 ≤ which }
     ensures told_after { told.new ≡
-        sets told.old at (told_in (part_said text.old a b which r.now)) }
+        sets told.old 0 (told_in (part_said text.old a b which r.now)) }
     ensures text_after { text.new ≡ (part_said text.old a b which r.now).text text.old }
 {
     match which {
-        18 => answers::tell_node(told, at, reading::node(r, a)),
-        19 => answers::tell_text(told, at, reading::packet_text(r, a, text)),
-        20 => answers::tell_number(told, at, reading::log_len(r, a)),
-        21 => answers::tell_entry(told, at, reading::log_entry(r, a, b)),
-        22 => answers::tell_pending(told, at, reading::pending(r, a, b)),
-        _ => answers::tell_record(told, at, reading::record(r, a)),
+        18 => answers::tell_node(told, reading::node(r, a)),
+        19 => answers::tell_text(told, reading::packet_text(r, a, text)),
+        20 => answers::tell_number(told, reading::log_len(r, a)),
+        21 => answers::tell_entry(told, reading::log_entry(r, a, b)),
+        22 => answers::tell_pending(told, reading::pending(r, a, b)),
+        _ => answers::tell_record(told, reading::record(r, a)),
     }
 }
 
-// One call; what is none tells refusal 0.
+// One call, with the lists from its own places on; what is none tells refusal 0.
 #[tactic(auto, using(crate::proofs::Making::proposed, crate::proofs::Making::none_made))]
 fn call(
     words: &[u64],
@@ -190,14 +191,12 @@ fn call(
     told: &mut [u64],
     floats: &mut [f64],
     text: &mut [u8],
-    i: usize,
     which: u64,
     a: usize,
     b: usize,
     c: usize,
     r: Room,
 ) -> Room
-    requires { i < 2 ^ 58 }
     ensures { record {
       rows = rows.exit.now;
       told = told.new;
@@ -205,7 +204,7 @@ fn call(
       text = text.new;
       room = result;
     } ≡
-        call_of words.now i which a b c
+        call_of words.now 0 which a b c
         (record {
           rows = rows.entry.now;
           told = told.old;
@@ -214,35 +213,32 @@ fn call(
           room = r;
         }) }
 {
-    let at = i * NUMBERS;
-    let f = i * FLOATS;
     match which {
-        1 => propose(told, at, r, a),
+        1 => propose(told, r, a),
         2 => {
             let x = r.capture_round(words, b, rows, c);
-            tell_round(told, at, x)
+            tell_round(told, x)
         }
         3 => {
             let y = r.pipeline_round(words, b, rows, c);
-            tell_round(told, at, y)
+            tell_round(told, y)
         }
         4..=17 => {
-            read_whole(told, at, floats, f, which, &r);
+            read_whole(told, floats, which, &r);
             r
         }
         18..=23 => {
-            read_part(told, at, text, which, a, b, &r);
+            read_part(told, text, which, a, b, &r);
             r
         }
         _ => {
-            numbers::put(told, at, 0);
+            numbers::put(told, 0, 0);
             r
         }
     }
 }
 
 // Call i of the list.
-#[tactic(auto, unfolding(crate::specs::Console::call_at))]
 fn call_at(
     words: &[u64],
     rows: &mut [u64],
@@ -275,7 +271,20 @@ fn call_at(
     let a = numbers::number(calls, k + 1) as usize;
     let b = numbers::number(calls, k + 2) as usize;
     let c = numbers::number(calls, k + 3) as usize;
-    call(words, rows, told, floats, text, i, which, a, b, c, r)
+    let at = (i * NUMBERS).min(told.len());
+    let f = (i * FLOATS).min(floats.len());
+    call(
+        words,
+        rows,
+        &mut told[at..],
+        &mut floats[f..],
+        text,
+        which,
+        a,
+        b,
+        c,
+        r,
+    )
 }
 
 fn play_calls(
