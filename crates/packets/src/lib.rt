@@ -4,7 +4,7 @@
 
 mod field;
 pub mod len;
-pub mod put;
+mod put;
 mod read;
 pub mod two_pc_ce;
 pub mod two_pc_pipeline;
