@@ -1,14 +1,13 @@
 -- Demand 3, one call at a time: opening, propose and a capture round. Assumes nothing.
-use Rattle.std.proofs.Common.{◌≡◌, ℕ, zero, suc, ◌+◌, ◌^◌, ◌<◌, ◌≤◌, Bool, true, false, not, ◌&&◌, eqb, ltb, leb, List, [], get_or, replicate, refl, subst, mod-eq_of_lt, arith, ltb-true, eqb-true, leb-false, leb-true}
+use Rattle.std.proofs.Common.{◌≡◌, ℕ, zero, suc, ◌+◌, ◌^◌, ◌<◌, ◌≤◌, Bool, true, false, not, ◌&&◌, eqb, leb, List, [], replicate, refl, subst, mod-eq_of_lt, arith, eqb-true, leb-false}
 use borrow.Author.Tests.{eqb-false}
 use Rattle.loops.specs.Pick.{either}
 use Rattle.limits.specs.Limits.{last_slot, last_term}
-use Rattle.limits.specs.Refusals.{bad_positions, bad_links, no_position, other_kind, no_proposal, no_term}
+use Rattle.limits.specs.Refusals.{bad_positions, no_position, other_kind, no_proposal, no_term}
 use Rattle.limits.proofs.Tests.{unrefused}
 use Rattle.graph.specs.Links.{is_size, graph_test, graph_refusal}
 use Rattle.graph.proofs.Rules.{graph_parts}
 use Rattle.graph.specs.declared.network.NetworkGraph.{NetworkGraph}
-use Rattle.marks.specs.Marks.{all_of}
 use Rattle.loops.specs.Wrap.{add64}
 use Rattle.merges.specs.Merging.{Noes, proposal_of, network_goal_of}
 use Rattle.merges.specs.declared.merging.Held.TheVariants.{Empty, Packet}

@@ -1,6 +1,6 @@
 // RULES 11.5 and 11.6. What the calls of a capture room do to the parts that they move: the network, and what the room
 // has of its own. A room's calls are thin over these.
-ghost use Rattle.std.specs.Prelude.{◌≡◌, ◌<◌, ◌||◌, length, replicate};
+ghost use Rattle.std.specs.Prelude.{◌≡◌, ◌<◌, length, replicate};
 ghost use Rattle.room.specs.Capturing.{empty_payload, new_capture, propose_refusal, proposed_in, propose_part, capture_refusal, ce_state, raised, raised_all, network_after, part_after, captured_by, capture_part, capture_rows};
 
 use super::room;
@@ -10,7 +10,7 @@ use capture::capture::{CeAnswer, CeState};
 use engines::network::Network;
 use engines::node::Node;
 use engines::words::Draw;
-use engines::{clamp, network};
+use engines::{network, node};
 use limits::refusals;
 use merges::merging;
 use merges::merging::{Held, Payload};
@@ -120,7 +120,7 @@ fn propose_in(conf: RoomConf, t: CapturePart, v: usize) -> CapturePart
         packet,
     };
     CapturePart {
-        term: std::num::wrapping_add_u64(t.term, 1),
+        term: t.term.wrapping_add(1),
         initiator: v,
         proposed: true,
         raised: false,
@@ -179,27 +179,21 @@ fn ce_state(w: Network, t: CapturePart) -> CeState
     }
 }
 
+#[tactic(auto, unfolding(crate::specs::Capturing::raised))]
 fn raise(v: Node) -> Node
     ensures { result ≡ raised v }
 {
-    let mut w = v;
-    w.progress_count = std::num::wrapping_add_u64(v.progress_count, 1);
-    w
+    Node {
+        progress_count: v.progress_count.wrapping_add(1),
+        ..v
+    }
 }
 
 // The progress of the first n positions, one higher.
 fn raise_all(at: [Node; 64], n: usize) -> [Node; 64]
     ensures { result ≡ raised_all n at }
 {
-    let count = clamp::at_most_64(n);
-    let mut a = at;
-    let mut i: usize = 0;
-    while i < count {
-        let v = a[i];
-        a[i] = raise(v);
-        i += 1;
-    }
-    a
+    node::change_all(at, n, |_, v| raise(v))
 }
 
 // Progress rises by one for everybody, once for each term: when a round meets the goal for the first time.
@@ -220,15 +214,6 @@ fn settle(conf: RoomConf, t: CapturePart, c: CeState) -> Network
     v
 }
 
-fn either_of(a: bool, b: bool) -> bool
-    ensures { result ≡ (a || b) }
-{
-    if a {
-        return true;
-    }
-    b
-}
-
 fn keep(t: CapturePart, c: CeState) -> CapturePart
     ensures { result ≡ part_after t c }
 {
@@ -237,7 +222,7 @@ fn keep(t: CapturePart, c: CeState) -> CapturePart
         term: t.term,
         initiator: t.initiator,
         proposed: t.proposed,
-        raised: either_of(t.raised, c.ended),
+        raised: t.raised || c.ended,
         held,
     }
 }

@@ -18,7 +18,7 @@ use graph::network::NetworkGraph;
 use limits::refusals;
 use pipeline::pipeline::PipelinePart;
 
-#[derive(Clone, Copy)]
+#[derive(Clone, Copy, Debug, PartialEq, Eq)]
 pub enum RoomKind {
     Pipeline,
     Capture,
@@ -120,28 +120,19 @@ impl Room {
 pub fn is_size(n: usize) -> bool
     ensures { result ≡ is_size n }
 {
-    if n == 0 {
-        return false;
-    }
-    n <= limits::POSITIONS
+    0 < n && n <= limits::POSITIONS
 }
 
 pub fn is_pipeline(kind: RoomKind) -> bool
     ensures { result ≡ is_pipeline kind }
 {
-    match kind {
-        RoomKind::Pipeline => true,
-        RoomKind::Capture => false,
-    }
+    matches!(kind, RoomKind::Pipeline)
 }
 
 fn no_repeats(kind: RoomKind, repeats: u32) -> bool
     ensures { result ≡ (is_pipeline kind && repeats == 0) }
 {
-    if !is_pipeline(kind) {
-        return false;
-    }
-    repeats == 0
+    is_pipeline(kind) && repeats == 0
 }
 
 // 2 and 3 of the links, by their numbers.

@@ -3,4 +3,4 @@ use Rattle.room.proofs.capture_calls.propose_in.Goals as goal
 
 pub returns : goal.returns
 unfolding proposed_in
-returns c = rw (c.wrapping_add_u64.ensures.value, c.empty_payloads-held.ensures, c.init_proposal-packet.ensures, c.voting_of-voting.ensures)
+returns c = rw (c.empty_payloads-held.ensures, c.init_proposal-packet.ensures, c.voting_of-voting.ensures)

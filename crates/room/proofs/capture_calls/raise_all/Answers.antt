@@ -1,14 +1,7 @@
 use Rattle.std.proofs.Common.{rules}
-use Rattle.loops.specs.Upto.{upto_none, upto_turn, upto_all}
-use Rattle.room.specs.Capturing.{raised_all}
+use Rattle.room.specs.Capturing.{raised, raised_all}
 use Rattle.room.proofs.capture_calls.raise_all.Goals as goal
-
-pub loop-i-init : goal.loop-i-init
-loop-i-init c = (search rules, upto_none _ _)
-
-pub loop-i-preserved : goal.loop-i-preserved
-loop-i-preserved c = (search rules, upto_turn _ _ c.loop-i.invariant.1 (rw c.raise.ensures))
 
 pub returns : goal.returns
 unfolding raised_all
-returns c = rw (← c.at_most_64-count.ensures) (upto_all _ _ c.loop-i.invariant.0 c.loop-i-test.false c.loop-i.invariant.1)
+returns c = c.change_all.ensures (λ i. raised) (λ i v w k. search rules)
