@@ -68,7 +68,7 @@ fn settings_by(xs: &[u64], loss_rate: f64, abort_probability: f64) -> Settings
         listen_timeout: numbers::number(xs, 6),
         flood_repeats: (numbers::number(xs, 7) % 4294967296) as u32,
         round_slots: numbers::number(xs, 8),
-        slots_given: numbers::is_yes(numbers::number(xs, 9)),
+        slots_given: numbers::number(xs, 9) != 0,
     }
 }
 
