@@ -1,15 +1,18 @@
 -- What a frame's turns do to the parts of a room is what calls do to the room. Assumes nothing.
 use mathlib.Core.List.{List}
-use mathlib.Core.Path.{◌≡◌, refl, sym, subst}
-use Prim.Native.Nat.{ℕ, ◌%◌}
+use mathlib.Core.Path.{◌≡◌, refl, sym, subst, ◌∙◌}
+use mathlib.Core.Bool.{Bool, true, false}
+use Prim.Native.Nat.{ℕ, zero, suc, ◌+◌, ◌%◌}
+use native.Mathlib.Omega.{arith}
 use lib.Dec.{eqb}
 use lib.ListN.{replicate}
 use borrow.Author.Tests.{eq-eqb}
 use Rattle.std.specs.Prelude.{Result, Ok, Err}
 use Rattle.limits.specs.declared.refusals.Refusal.{Refusal}
 use Rattle.limits.specs.Limits.{row_cells}
-use Rattle.loops.specs.Upto.{upto_holds}
-use Rattle.loops.specs.Runs.{runs_keeps}
+use Rattle.loops.specs.Pick.{either}
+use Rattle.loops.specs.Upto.{upto}
+use Rattle.loops.specs.Runs.{go}
 use Rattle.merges.proofs.Safety.{either_cases}
 use Rattle.graph.specs.declared.network.NetworkGraph.{NetworkGraph}
 use Rattle.pipeline.specs.declared.pipeline.PipelineAnswer.{PipelineAnswer}
@@ -21,8 +24,9 @@ use Rattle.room.specs.declared.room.Room.{Room}
 use Rattle.room.specs.declared.capture_calls.Captured.{Captured}
 use Rattle.demand.specs.Calls.{Propose, CaptureRound, PipelineRound, handed, ByCalls}
 use Rattle.demand.proofs.Listing.{no_calls, one_call_more}
-use Rattle.frame.specs.Play.{asked_of, unless_refused, proposing, capturing, capture_turn, new_captured, play_capture, pipeline_turn, is_done, new_ran, play_pipeline}
-use Rattle.frame.specs.Calls.{Leads, PlayedByCalls}
+use Rattle.frame.specs.Play.{asked_of, unless_refused, proposing, capturing, capture_turn, play_capture, pipeline_turn, pipeline_turns, is_done, new_ran}
+use Rattle.frame.specs.Calls.{LeadsTo, Leads, PlayedByCalls}
+use Rattle.room.specs.declared.room.RoomConf.{RoomConf}
 use Rattle.frame.specs.declared.line.Frame.{Frame}
 
 -- a turn on a state that calls made
@@ -32,13 +36,26 @@ module _ {S : Type 0} (r : Room) (made : S → Room) (turn : ℕ → S → Resul
   Made (Ok s) = ByCalls r (made s)
   Made (Err k) = Unit {0}
 
-  turned : ((k : ℕ) (s : S) → ByCalls r (made s) → Made (turn k s)) → (k : ℕ) (q : Result S Refusal) → Leads r made turn q → Leads r made turn (unless_refused (turn k) q)
-  turned h k (Err e) b = b
-  turned h k (Ok s) b = by (turn k s) refl (h k s b)
-    where
-      by : (q : Result S Refusal) → turn k s ≡ q → Made q → Leads r made turn q
-      by (Ok t) e m = m
-      by (Err e) f m = record { state = s; number = k; by_calls = b; refused = f }
+  module _ (left : ℕ → Result S Refusal) where
+    abbrev To : ℕ → Result S Refusal → Type 0
+    To n q = LeadsTo r made turn left n q
+
+    -- a turn that is refused is still that where there are more turns
+    wider : (n : ℕ) (k : Refusal) → To n (Err k) → To (suc n) (Err k)
+    wider n k t =
+        record { number = t.number; among = omega (arith, t.among); state = t.state; before = t.before; by_calls = t.by_calls; refused = t.refused }
+
+    rests : (n : ℕ) (q : Result S Refusal) → To n q → To (suc n) q
+    rests n (Ok s) b = b
+    rests n (Err k) t = wider n k t
+
+    turned : ((k : ℕ) (s : S) → ByCalls r (made s) → Made (turn k s)) → (n : ℕ) (q : Result S Refusal) → left n ≡ q → To n q → To (suc n) (unless_refused (turn n) q)
+    turned h n (Err k) e t = wider n k t
+    turned h n (Ok s) e b = by (turn n s) refl (h n s b)
+      where
+        by : (q : Result S Refusal) → turn n s ≡ q → Made q → To (suc n) q
+        by (Ok t) f m = m
+        by (Err k) f m = record { number = n; among = omega arith; state = s; before = e; by_calls = b; refused = f }
 
 -- ---- a capture room
 
@@ -91,20 +108,55 @@ opened : (f : Frame) (g : NetworkGraph) → open_refusal (asked_of f g) ≡ 0 �
 unfolding open_of asked_of
 opened f g e = rw (eq-eqb (open_refusal (asked_of f g)) 0 e)
 
+-- one step more of a loop with an early exit
+module _ {S : Type 0} (stop : S → Bool) (step : S → S) where
+  go_more : (k : ℕ) (s : S) → go stop step (suc k) (stop s) s ≡ either (stop (go stop step k (stop s) s)) (go stop step k (stop s) s) (step (go stop step k (stop s) s))
+  unfolding go
+  go_more zero s = by (stop s) refl
+    where
+      by : (b : Bool) → stop s ≡ b → go stop step 1 b s ≡ either (stop s) s (step s)
+      by true e = rw e
+      by false e = rw e
+  go_more (suc k) s = by (stop s) refl (go_more k (step s))
+    where
+      by : (b : Bool) → stop s ≡ b
+          → go stop step (suc k) (stop (step s)) (step s) ≡ either (stop (go stop step k (stop (step s)) (step s))) (go stop step k (stop (step s)) (step s)) (step (go stop step k (stop (step s)) (step s)))
+          → go stop step (suc (suc k)) b s ≡ either (stop (go stop step (suc k) b s)) (go stop step (suc k) b s) (step (go stop step (suc k) b s))
+      by true e ih = rw e
+      by false e ih = ih
+
+module _ (conf : RoomConf) (ws : List ℕ) where
+  abbrev start : Room
+  start = new_room conf 0
+
+  proposals : (n : ℕ) → Leads start (capture_room start ws) (capture_turn ws conf) (λ k. play_capture k ws conf) n
+  unfolding play_capture upto new_room
+  proposals zero = no_calls start
+  proposals (suc n) =
+      turned start (capture_room start ws) (capture_turn ws conf) (λ k. play_capture k ws conf) (both start ws) n (play_capture n ws conf) refl (proposals n)
+
+  abbrev Next : ℕ → Result PipelineAnswer Refusal → Type 0
+  Next n q = LeadsTo start (pipeline_room start ws) (λ k. pipeline_turn ws conf) (λ k. pipeline_turns ws conf k) n q
+
+  more : (n : ℕ) → pipeline_turns ws conf (suc n) ≡ either (is_done (pipeline_turns ws conf n)) (pipeline_turns ws conf n) (unless_refused (pipeline_turn ws conf) (pipeline_turns ws conf n))
+  more n = go_more is_done (unless_refused (pipeline_turn ws conf)) n (Ok new_ran)
+
+  rounds : (n : ℕ) → Leads start (pipeline_room start ws) (λ k. pipeline_turn ws conf) (λ k. pipeline_turns ws conf k) n
+  unfolding go new_room
+  rounds zero = no_calls start
+  rounds (suc n) = by (is_done (pipeline_turns ws conf n)) refl (rounds n)
+    where
+      by : (b : Bool) → is_done (pipeline_turns ws conf n) ≡ b → Next n (pipeline_turns ws conf n) → Next (suc n) (pipeline_turns ws conf (suc n))
+      by true e l = subst (Next (suc n)) (sym (more n ∙ rw e)) (rests start (pipeline_room start ws) (λ k. pipeline_turn ws conf) (λ k. pipeline_turns ws conf k) n (pipeline_turns ws conf n) l)
+      by false e l = subst (Next (suc n)) (sym (more n ∙ rw e)) (turned start (pipeline_room start ws) (λ k. pipeline_turn ws conf) (λ k. pipeline_turns ws conf k) (ran start ws) n (pipeline_turns ws conf n) refl l)
+
 pub played_by_calls : PlayedByCalls
-unfolding play_capture play_pipeline new_room
 played_by_calls =
     record {
       capture = λ f g ws e.
           let conf = conf_of (asked_of f g) in
-          let r = new_room conf 0 in
-          let turn = λ (k : ℕ) (s : Captured). capture_turn ws conf k s in
-          subst (λ (o : Room). Leads o (capture_room o ws) turn (play_capture f.transactions ws conf)) (sym (opened f g e))
-          (upto_holds (Leads r (capture_room r ws) turn) (λ k. unless_refused (turn k)) f.transactions (λ k q _. turned r (capture_room r ws) turn (both r ws) k q) (Ok new_captured) (no_calls r));
+          subst (λ (o : Room). Leads o (capture_room o ws) (capture_turn ws conf) (λ k. play_capture k ws conf) f.transactions) (sym (opened f g e)) (proposals conf ws f.transactions);
       pipeline = λ f g ws e.
           let conf = conf_of (asked_of f g) in
-          let r = new_room conf 0 in
-          let turn = λ (k : ℕ) (s : PipelineAnswer). pipeline_turn ws conf s in
-          subst (λ (o : Room). Leads o (pipeline_room o ws) turn (play_pipeline f.transactions ws conf)) (sym (opened f g e))
-          (runs_keeps is_done (unless_refused (pipeline_turn ws conf)) (λ k q. Leads r (pipeline_room r ws) turn q) (λ k q b. turned r (pipeline_room r ws) turn (ran r ws) k q b) (Leads r (pipeline_room r ws) turn) (λ k q b. b) _ (Ok new_ran) (no_calls r));
+          subst (λ (o : Room). Leads o (pipeline_room o ws) (λ k. pipeline_turn ws conf) (λ k. pipeline_turns ws conf k) (f.transactions + 1002)) (sym (opened f g e)) (rounds conf ws (f.transactions + 1002));
     }

@@ -132,10 +132,14 @@ is_done (Err k) = true
 abbrev pub new_ran : PipelineAnswer
 new_ran = record { refusal = 0; cursor = 0; used = 0; network = new_network; part = new_part }
 
+-- the rounds of a pipeline room up to so many, and none once it has stopped
+abbrev pub pipeline_turns : List ℕ → RoomConf → ℕ → Result PipelineAnswer Refusal
+pipeline_turns ws conf k = runs is_done (unless_refused (pipeline_turn ws conf)) k (Ok new_ran)
+
 -- A pipeline room runs until it has stopped: the round of number T + 1001 stops it if none before it does, so that T +
 -- 1002 rounds are always enough (Stopping.antt).
 unfoldable pub play_pipeline : ℕ → List ℕ → RoomConf → Result PipelineAnswer Refusal
-play_pipeline t ws conf = runs is_done (unless_refused (pipeline_turn ws conf)) (t + 1002) (Ok new_ran)
+play_pipeline t ws conf = pipeline_turns ws conf (t + 1002)
 
 -- ---- what comes of them: the bytes sent over all rounds, or the refusal
 

@@ -53,8 +53,7 @@ fn told(number: u64) -> Result<(), Refusal>
 
 // ---- the room
 
-// The field of the exponent is full, and that of the digits is not 0. (The test program packet_cases has this and the
-// next again: it leans on crates far below this one.)
+// The field of the exponent is full, and that of the digits is not 0.
 fn is_nan(bits: u64) -> bool
     ensures { result ≡ nan_bits binary64 bits }
 {

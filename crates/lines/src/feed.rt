@@ -29,7 +29,8 @@ fn put_line(line: &[u8], words: &mut [u64], out: &mut [u8], used: usize) -> usiz
     end + 1
 }
 
-// The lines of a text, as long as there is room for the longest answer.
+// The lines of a text, as long as there is room for the longest answer. A `while`: a turn goes on behind the end that
+// was found, so no range says where it goes.
 fn feed_lines(text: &[u8], n: usize, words: &mut [u64], out: &mut [u8], used: usize) -> Fed
     requires { (n ≤ length text.now) × (frame_words ≤ length words.old) × (used ≤ length out.old) }
     ensures { Feeds text.now n words.old out.old used (Ok result) words.new out.new }

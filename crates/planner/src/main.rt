@@ -53,7 +53,8 @@ impl Planner {
     }
 
     // What a read brought is answered before the next read: who waits for a line's answer gets it. Where the output is
-    // full it is written, and filled anew. From the place handed back on stands the line that is left.
+    // full it is written, and filled anew. From the place handed back on stands the line that is left. A `while`: a turn
+    // goes on where the call says.
     fn answer(&mut self, text: &[u8], n: usize) -> Result<usize, Failure>
         requires { n ≤ length text.now }
         ensures { IfOk result (λ from. (from ≤ length text.now) × (drop from text.now ≡ left_of (take n text.now) (drop n text.now))) }
