@@ -41,11 +41,8 @@ pub(crate) fn bytes_of(flooding: u64, p: Phases, table: &[u64; 576]) -> u64
     ensures { result ≡ sent_by flooding p table.now }
 {
     let mut sum: u64 = 0;
-    let mut left = flooding;
-    while left != 0 {
-        let i = sets::lowest_mark(left);
+    for i in sets::iter(flooding) {
         sum = sum.wrapping_add(network::on_air(text_len(p, table, i) as u64));
-        left = sets::without_mark(left, i);
     }
     sum
 }
@@ -118,11 +115,8 @@ pub(crate) fn tell_all(
     ensures { ToldAll voting targets hears.now before table.old result table.new }
 {
     let mut t = before;
-    let mut left = targets;
-    while left != 0 {
-        let i = sets::lowest_mark(left);
+    for i in sets::iter(targets) {
         t = tell(voting, t, i, hears[i], table);
-        left = sets::without_mark(left, i);
     }
     t
 }

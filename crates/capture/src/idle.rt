@@ -23,11 +23,8 @@ fn shortest_wait(listening: u64, table: &[u64; 576], slot: u64, timeout: u64, mo
     ensures { (result ≤ most) × (0 < result → (i : ℕ) → has listening i ≡ true → slot - cell table.now last_at i + result ≤ timeout) }
 {
     let mut wait = most;
-    let mut left = listening;
-    while left != 0 {
-        let i = sets::lowest_mark(left);
+    for i in sets::iter(listening) {
         wait = until_due(table[LAST + i], slot, timeout, wait);
-        left = sets::without_mark(left, i);
     }
     wait
 }

@@ -89,11 +89,8 @@ fn toss_all(
         recovering: 0,
         draw: d,
     };
-    let mut left = listening;
-    while left != 0 {
-        let i = sets::lowest_mark(left);
+    for i in sets::iter(listening) {
         c = toss(words, slot, timeout, table[LAST + i], i, c);
-        left = sets::without_mark(left, i);
     }
     c
 }
@@ -115,11 +112,8 @@ fn gather(links: &[u64; 64], flooding: u64, t: usize, ids: &mut [usize; 64]) -> 
     ensures { (record { ids = ids.exit.now; count = result } ≡ over_marks flooding (note_at links.now t) (record { ids = ids.entry.now; count = 0 })) × (result ≤ 64) }
 {
     let mut count: usize = 0;
-    let mut left = flooding;
-    while left != 0 {
-        let s = sets::lowest_mark(left);
+    for s in sets::iter(flooding) {
         count = note(links, t, s, ids, count);
-        left = sets::without_mark(left, s);
     }
     count
 }
@@ -226,11 +220,8 @@ fn capture_all(
     ensures { record { hears = hears.exit.now; tally = result } ≡ over_marks targets (capture_at words.now loss links.now flooding) (record { hears = hears.entry.now; tally = p }) }
 {
     let mut q = p;
-    let mut left = targets;
-    while left != 0 {
-        let t = sets::lowest_mark(left);
+    for t in sets::iter(targets) {
         q = capture_at(words, links, flooding, loss, t, hears, q);
-        left = sets::without_mark(left, t);
     }
     q
 }

@@ -7,19 +7,9 @@ use Rattle.loops.specs.Upto.{upto, upto_holds}
 use Rattle.marks.specs.Marks.{has, count_of, Lowest}
 use Rattle.marks.specs.Laws.{has_none, has_out}
 use Rattle.marks.specs.Sets.{and_true, lowest_lt, count_grows, marks_is}
+pub use Rattle.marks.specs.Marks.{Without}
+pub use Rattle.marks.specs.Sets.{without}
 use Rattle.engines.specs.Marked.{over_marks, with_mark}
-
--- m' is m without r, its lowest mark
-pub record Without (m r m' : ℕ) : Type 0 where
-  pub low : r < 64
-  pub absent : (j : ℕ) → j < r → has m j ≡ false
-  pub there : has m r ≡ true
-  pub rest : (j : ℕ) → has m' j ≡ (has m j && not (eqb j r))
-
-pub without : (m r m' : ℕ) → m < 2 ^ 64 → (m ≡ 0 → ⊥) → Lowest m r → ((j : ℕ) → has m' j ≡ (has m j && not (eqb j r))) → Without m r m'
-without m r m' h ne l e =
-    let low : r < 64 = lowest_lt m r h ne l in
-    record { low = low; absent = l.absent; there = l.there low; rest = e }
 
 gone : (a b : Bool) → b ≡ true → (a && not b) ≡ false
 gone true b e = rw e

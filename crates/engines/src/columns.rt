@@ -11,14 +11,11 @@ fn change<F: Fn(u64) -> u64>(table: &mut [u64], start: usize, who: u64, f: F)
     requires { F.IsAlwaysCallable f }
     ensures { (h : ℕ → ℕ) → ((v w : ℕ) → F.post f v w → w ≡ h v) → table.new ≡ over_marks who (cell_by start h) table.old }
 {
-    let mut left = who;
-    while left != 0 {
-        let i = sets::lowest_mark(left);
+    for i in sets::iter(who) {
         let at = start.saturating_add(i);
         if at < table.len() {
             table[at] = f(table[at]);
         }
-        left = sets::without_mark(left, i);
     }
 }
 

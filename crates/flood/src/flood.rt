@@ -95,11 +95,8 @@ fn send(words: &[u64], loss: f64, hearers: u64, p: FloodPlan) -> FloodPlan
     ensures { result ≡ over_marks hearers (hear_at words.now loss) p }
 {
     let mut q = p;
-    let mut left = hearers;
-    while left != 0 {
-        let j = sets::lowest_mark(left);
+    for j in sets::iter(hearers) {
         q = hear(words, loss, j, q);
-        left = sets::without_mark(left, j);
     }
     q
 }
@@ -130,11 +127,8 @@ fn plan_flood(words: &[u64], loss: f64, links: &[u64; 64], s: StateSets, d: Draw
         attempts: 0,
         success: 0,
     };
-    let mut left = s.flooding;
-    while left != 0 {
-        let i = sets::lowest_mark(left);
+    for i in sets::iter(s.flooding) {
         p = send_at(words, loss, links, s.listening, i, p);
-        left = sets::without_mark(left, i);
     }
     p
 }

@@ -105,11 +105,8 @@ fn join_at(votes: &mut [u64; 64], t: usize, top: usize, bits: u64)
 fn join_up_to(votes: &mut [u64; 64], pending: u64, top: usize, bits: u64)
     ensures { votes.new ≡ over_marks pending (votes_at top bits) votes.old }
 {
-    let mut left = pending;
-    while left != 0 {
-        let t = sets::lowest_mark(left);
+    for t in sets::iter(pending) {
         join_at(votes, t, top, bits);
-        left = sets::without_mark(left, t);
     }
 }
 
@@ -239,11 +236,8 @@ fn judge_all(n: usize, due: u64, s: NodeTwoPcState) -> NodeTwoPcState
     ensures { result ≡ over_marks due (settle_at n) s }
 {
     let mut q = s;
-    let mut left = due;
-    while left != 0 {
-        let t = sets::lowest_mark(left);
+    for t in sets::iter(due) {
         q = judge_at(n, t, q);
-        left = sets::without_mark(left, t);
     }
     q
 }
@@ -271,11 +265,8 @@ pub fn abort_all(s: NodeTwoPcState, fast: u64) -> NodeTwoPcState
     ensures { result ≡ abort_all fast s }
 {
     let mut q = s;
-    let mut left = fast;
-    while left != 0 {
-        let t = sets::lowest_mark(left);
+    for t in sets::iter(fast) {
         q = finalize_tx(q, t, false);
-        left = sets::without_mark(left, t);
     }
     q
 }

@@ -126,11 +126,8 @@ fn record_judged(facts: RoundFacts, rounds: &[u64; 64], s: NodeTwoPcState, b: Re
     ensures { result ≡ record_judged facts.n facts.round facts.slot rounds.now s b }
 {
     let mut c = b;
-    let mut left = s.pending;
-    while left != 0 {
-        let t = sets::lowest_mark(left);
+    for t in sets::iter(s.pending) {
         c = record_due(facts, rounds, s, t, c);
-        left = sets::without_mark(left, t);
     }
     c
 }

@@ -82,11 +82,8 @@ fn record_aborts(slot: u64, fast: u64, b: Records) -> Records
     ensures { result ≡ record_aborts slot fast b }
 {
     let mut c = b;
-    let mut left = fast;
-    while left != 0 {
-        let t = sets::lowest_mark(left);
+    for t in sets::iter(fast) {
         c = prepare::record_tx(c, t, false, slot);
-        left = sets::without_mark(left, t);
     }
     c
 }
@@ -172,13 +169,10 @@ impl Hearing<'_> {
     {
         let mut ss = states;
         let mut m = l;
-        let mut left = parts;
-        while left != 0 {
-            let i = sets::lowest_mark(left);
+        for i in sets::iter(parts) {
             let x = self.process_one(i, ss[i], m);
             ss[i] = x.state;
             m = x.carried;
-            left = sets::without_mark(left, i);
         }
         AllProcessed {
             states: ss,

@@ -45,11 +45,8 @@ fn deliver_all(payloads: [RoundPacket; 64], q: RoundPacket, parts: u64) -> [Roun
     ensures { result ≡ deliver_all q parts payloads }
 {
     let mut ps = payloads;
-    let mut left = parts;
-    while left != 0 {
-        let i = sets::lowest_mark(left);
+    for i in sets::iter(parts) {
         ps[i] = q;
-        left = sets::without_mark(left, i);
     }
     ps
 }

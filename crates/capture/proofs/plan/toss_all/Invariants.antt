@@ -1,5 +1,4 @@
-use Rattle.std.proofs.Common.{◌≡◌, ℕ, ◌^◌, ◌<◌, List}
-use Rattle.marks.specs.Marks.{count_of}
+use Rattle.std.proofs.Common.{◌≡◌, ℕ, List}
 use Rattle.engines.specs.Marked.{over_marks}
 use Rattle.engines.specs.Columns.{cell}
 use Rattle.capture.specs.Plan.{tossed1}
@@ -11,10 +10,6 @@ use Rattle.capture.proofs.plan.toss_all.Given as goal
 abbrev pub tossing : List ℕ → List ℕ → ℕ → ℕ → ℕ → Coins → Coins
 tossing words table slot timeout i c = tossed1 words slot timeout (waiting_since (cell table last_at i)) i c
 
-abbrev pub invariant-loop-left : goal.invariant-loop-left
-invariant-loop-left l =
-    (l.left < 2 ^ 64)
-    × (over_marks l.left (tossing l.words l.table l.slot l.timeout) l.c ≡ over_marks l.listening (tossing l.words l.table l.slot l.timeout) l.initial.c)
-
-abbrev pub decreases-loop-left : goal.decreases-loop-left
-decreases-loop-left l = count_of l.left 64
+abbrev pub invariant-loop-i : goal.invariant-loop-i
+invariant-loop-i l =
+    over_marks l.i-iterator.0 (tossing l.words l.table l.slot l.timeout) l.c ≡ over_marks l.listening (tossing l.words l.table l.slot l.timeout) l.initial.c

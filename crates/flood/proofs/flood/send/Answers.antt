@@ -1,15 +1,12 @@
-use Rattle.std.proofs.Common.{refl, arith}
-use Rattle.engines.proofs.Marking.{without, over_less, over_turn, over_none}
+use Rattle.std.proofs.Common.{refl}
+use Rattle.engines.proofs.Marking.{over_turn, over_none}
 use Rattle.flood.proofs.flood.send.Goals as goal
 
-pub loop-left-init : goal.loop-left-init
-loop-left-init c = (omega arith, refl)
+pub loop-j-init : goal.loop-j-init
+loop-j-init c = rw (c.into_iter-j-iterator.ensures.into_iter_gives, c.iter-j-items.ensures) refl
 
-pub loop-left-smaller : goal.loop-left-smaller
-loop-left-smaller c = over_less (without _ _ _ c.loop-left.invariant.0 c.loop-left-test.true c.lowest_mark-j.ensures c.without_mark-left.ensures)
-
-pub loop-left-preserved : goal.loop-left-preserved
-loop-left-preserved c = (omega arith, over_turn _ (without _ _ _ c.loop-left.invariant.0 c.loop-left-test.true c.lowest_mark-j.ensures c.without_mark-left.ensures) c.hear-q.ensures c.loop-left.invariant.1)
+pub loop-j-preserved : goal.loop-j-preserved
+loop-j-preserved c = over_turn _ c.in-Some.ensures.steps c.hear-q.ensures c.loop-j.invariant
 
 pub returns : goal.returns
-returns c = over_none _ c.loop-left-test.false c.loop-left.invariant.1
+returns c = over_none _ c.in-None.ensures.steps.0 c.loop-j.invariant

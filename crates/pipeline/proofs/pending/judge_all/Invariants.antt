@@ -1,11 +1,7 @@
-use Rattle.std.proofs.Common.{◌≡◌, ◌^◌, ◌<◌}
-use Rattle.marks.specs.Marks.{count_of}
+use Rattle.std.proofs.Common.{◌≡◌}
 use Rattle.engines.specs.Marked.{over_marks}
 use Rattle.pipeline.specs.Pending.{settle_at}
 use Rattle.pipeline.proofs.pending.judge_all.Given as goal
 
-abbrev pub invariant-loop-left : goal.invariant-loop-left
-invariant-loop-left l = (l.left < 2 ^ 64) × (over_marks l.left (settle_at l.n) l.q ≡ over_marks l.initial.left (settle_at l.n) l.initial.q)
-
-abbrev pub decreases-loop-left : goal.decreases-loop-left
-decreases-loop-left l = count_of l.left 64
+abbrev pub invariant-loop-t : goal.invariant-loop-t
+invariant-loop-t l = over_marks l.t-iterator.0 (settle_at l.n) l.q ≡ over_marks l.due (settle_at l.n) l.initial.q

@@ -1,21 +1,17 @@
-use Rattle.std.proofs.Common.{refl, arith}
-use Rattle.marks.specs.Sets.{lowest_lt}
-use Rattle.engines.proofs.Marking.{without, over_less, over_turn, over_none}
+use Rattle.std.proofs.Common.{refl}
+use Rattle.engines.proofs.Marking.{over_turn, over_none}
 use Rattle.pipeline.specs.Pipeline.{record_judged}
 use Rattle.pipeline.proofs.prepare.record_judged.Goals as goal
 
-pub loop-left-init : goal.loop-left-init
-loop-left-init c = (omega arith, refl)
+pub loop-t-init : goal.loop-t-init
+loop-t-init c = rw (c.into_iter-t-iterator.ensures.into_iter_gives, c.iter-t-items.ensures) refl
 
 pub record_due-c-requires : goal.record_due-c-requires
-record_due-c-requires c = lowest_lt _ _ c.loop-left.invariant.0 c.loop-left-test.true c.lowest_mark-t.ensures
+record_due-c-requires c = c.in-Some.ensures.steps.low
 
-pub loop-left-smaller : goal.loop-left-smaller
-loop-left-smaller c = over_less (without _ _ _ c.loop-left.invariant.0 c.loop-left-test.true c.lowest_mark-t.ensures c.without_mark-left.ensures)
-
-pub loop-left-preserved : goal.loop-left-preserved
-loop-left-preserved c = (omega arith, over_turn _ (without _ _ _ c.loop-left.invariant.0 c.loop-left-test.true c.lowest_mark-t.ensures c.without_mark-left.ensures) c.record_due-c.ensures c.loop-left.invariant.1)
+pub loop-t-preserved : goal.loop-t-preserved
+loop-t-preserved c = over_turn _ c.in-Some.ensures.steps c.record_due-c.ensures c.loop-t.invariant
 
 pub returns : goal.returns
 unfolding record_judged
-returns c = over_none _ c.loop-left-test.false c.loop-left.invariant.1
+returns c = over_none _ c.in-None.ensures.steps.0 c.loop-t.invariant
