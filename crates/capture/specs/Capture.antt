@@ -1,14 +1,16 @@
 -- RULES 8.1, 8.2 and 8.8, a slot: tick, row, goal test, coins, captures, merges, next states; and the round. Assumes
 -- nothing.
-use Rattle.std.specs.Prelude.{ℕ, ◌+◌, ◌*◌, ◌%◌, ◌^◌, Bool, true, false, List, length, ◌==◌}
+use Rattle.std.specs.Prelude.{ℕ, ◌+◌, ◌*◌, ◌%◌, ◌^◌, Bool, true, false, List, length, Ok, is_ok}
 use Rattle.std.proofs.lemmas.List.Edits.{sets}
+use Rattle.std.specs.Result.{result_and}
 use Rattle.loops.specs.Pick.{either}
 use Rattle.loops.specs.Runs.{runs}
 use Rattle.limits.specs.Limits.{row_cells}
+use Rattle.limits.specs.Refusals.{Tested}
 use Rattle.merges.specs.Merging.{network_goal_of}
 use Rattle.merges.specs.declared.votes.Voting.{Voting}
 use Rattle.engines.specs.Nodes.{sets_of}
-use Rattle.engines.specs.Network.{with_nodes, ticking, behind_slot, long_refusal, late_of, or_else}
+use Rattle.engines.specs.Network.{with_nodes, ticking, behind_slot, length_test, late_test}
 use Rattle.engines.specs.Rounds.{rows_in, due_in}
 use Rattle.engines.specs.declared.words.Draw.{Draw}
 use Rattle.engines.specs.declared.network.Network.{Network}
@@ -20,7 +22,6 @@ use Rattle.capture.specs.Plan.{Plan}
 use Rattle.capture.specs.Turns.{News}
 use Rattle.capture.specs.Ce.{SlotMerges}
 use Rattle.capture.specs.declared.capture.CeState.{CeState}
-use Rattle.capture.specs.declared.capture.CeAnswer.{CeAnswer}
 
 -- the votes of a round: by the positions, the abort probability and the seed that it goes by
 abbrev pub voting_of : RoundConf → Voting
@@ -104,20 +105,26 @@ abbrev pub rows_of : List ℕ → RoundConf → ℕ → CeState → List ℕ
 rows_of ws conf k c = rows_in network_in over (slot_of ws conf) conf k c
 
 -- 15, then 16 and 17 by its run
-unfoldable pub refusal_of : List ℕ → ℕ → ℕ → RoundConf → CeState → ℕ
-refusal_of ws numbers used conf s =
-    or_else (long_refusal conf s.network.slot)
-    (late_of numbers used (after_round ws conf s).draw.short (due_in network_in over (slot_of ws conf) conf conf.length s))
+unfoldable pub round_test : List ℕ → ℕ → ℕ → RoundConf → CeState → Tested
+round_test ws numbers used conf s =
+    result_and (length_test conf s.network.slot)
+    (late_test numbers used (after_round ws conf s).draw.short (due_in network_in over (slot_of ws conf) conf conf.length s))
 
--- A refused round hands back its number and the state as it was.
+-- what a round tells, and what it leaves: the state, and how many rows are used
+pub record CeAnswer : Type 0 where
+  pub told : Tested
+  pub state : CeState
+  pub used : ℕ
+
+-- A refused round leaves all as it was.
 unfoldable pub answer_of : List ℕ → ℕ → ℕ → RoundConf → CeState → ℕ → ℕ → CeAnswer
 answer_of ws numbers used conf c initiator cursor =
     let s = start_of conf initiator cursor c in
-    either (refusal_of ws numbers used conf s == 0)
-    (record { refusal = 0; state = after_round ws conf s; used = used + due_in network_in over (slot_of ws conf) conf conf.length s })
-    (record { refusal = refusal_of ws numbers used conf s; state = c; used = used })
+    either (is_ok (round_test ws numbers used conf s))
+    (record { told = Ok tt; state = after_round ws conf s; used = used + due_in network_in over (slot_of ws conf) conf conf.length s })
+    (record { told = round_test ws numbers used conf s; state = c; used = used })
 
 unfoldable pub buffer_of : List ℕ → List ℕ → ℕ → RoundConf → CeState → ℕ → ℕ → List ℕ
 buffer_of ws rows used conf c initiator cursor =
     let s = start_of conf initiator cursor c in
-    either (refusal_of ws (length rows) used conf s == 0) (sets rows (used * row_cells) (rows_of ws conf conf.length s)) rows
+    either (is_ok (round_test ws (length rows) used conf s)) (sets rows (used * row_cells) (rows_of ws conf conf.length s)) rows

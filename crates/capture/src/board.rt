@@ -82,6 +82,10 @@ pub struct CeFixed {
 
 // ---- one position, read
 
+// Here, in ce.rt and in plan.rt a function on one position asks that its number is below 64, as the loops over marks
+// and over the first n have it. A type for such numbers would be made in each loop and taken apart at each place of a
+// table, and the check finds the bound without a line of proof.
+
 #[tactic(auto, unfolding(crate::specs::Boards::state_by))]
 fn state_by(s: StateSets, i: usize) -> NodeState
     ensures { result ≡ state_by s i }

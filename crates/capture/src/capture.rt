@@ -16,6 +16,7 @@ use engines::rows::Row;
 use engines::words::Draw;
 use engines::{network, rows};
 use graph::sets;
+use limits::refusals::Refusal;
 use merges::merging::Payload;
 use merges::votes::Voting;
 
@@ -224,14 +225,6 @@ fn record_run(
 
 // ---- the round
 
-// What a round hands back: the refusal, 0 for none; the state, as it was if refused; how many rows are used.
-#[derive(Clone, Copy)]
-pub struct CeAnswer {
-    pub refusal: u64,
-    pub state: CeState,
-    pub used: usize,
-}
-
 // A round that was run, as the rules have it, and how many rows are due.
 #[derive(Clone, Copy)]
 struct CeSurvey {
@@ -273,50 +266,33 @@ fn write_rows(
     record_run(words, part, &g.adj, f, b, conf.length, top, &mut table);
 }
 
-fn refuse(refusal: u64, c: CeState, used: usize) -> CeAnswer
-    ensures { result ≡ record { refusal = refusal; state = c; used = used } }
-{
-    CeAnswer {
-        refusal,
-        state: c,
-        used,
-    }
-}
-
 // A round from slot to slot, its rows written behind the rows already used. A refused round changes nothing. The rows
-// due are counted first, and the round is run again only for them.
+// due are counted first, and the round is run again only for them. (Rows and how many are used stay two, as C has
+// them.)
 pub fn run_ce_round(
     words: &[u64],
     rows: &mut [u64],
-    used: usize,
+    used: &mut usize,
     conf: RoundConf,
-    c: CeState,
+    c: &mut CeState,
     initiator: usize,
     cursor: usize,
-) -> CeAnswer
-    ensures value { result ≡ answer_of words.now (length rows.old) used conf c initiator cursor }
-    ensures rows_after { rows.new ≡ buffer_of words.now rows.old used conf c initiator cursor }
+) -> Result<(), Refusal>
+    ensures value { record { told = result; state = c.new; used = used.new } ≡ answer_of words.now (length rows.old) used.old conf c.old initiator cursor }
+    ensures rows_after { rows.new ≡ buffer_of words.now rows.old used.old conf c.old initiator cursor }
 {
-    let early = network::long_refusal(conf, c.network.slot);
-    if early != 0 {
-        return refuse(early, c, used);
-    }
-    let d = survey(words, conf, c, initiator, cursor);
+    network::check_length(conf, c.network.slot)?;
+    let d = survey(words, conf, *c, initiator, cursor);
     let e = d.state;
-    let late = network::late_refusal(e.draw.short, d.due, rows.len(), used);
-    if late != 0 {
-        return refuse(late, c, used);
-    }
+    network::check_late(e.draw.short, d.due, rows.len(), *used)?;
     let due = d.due as usize;
-    let behind = used + due;
+    let behind = *used + due;
     if due != 0 {
-        let from = used * limits::ROW;
+        let from = *used * limits::ROW;
         let to = behind * limits::ROW;
-        write_rows(words, &mut rows[from..to], conf, c, initiator, cursor);
+        write_rows(words, &mut rows[from..to], conf, *c, initiator, cursor);
     }
-    CeAnswer {
-        refusal: 0,
-        state: e,
-        used: behind,
-    }
+    *c = e;
+    *used = behind;
+    Ok(())
 }

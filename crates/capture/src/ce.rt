@@ -23,6 +23,7 @@ pub struct Told {
 
 // ---- bytes
 
+// (Positions below 64, here and below: see board.rt.)
 // The length of the payload that position i sends if it floods: that of its packet's text, 0 where it holds none.
 fn text_len(p: Phases, table: &[u64; 576], i: usize) -> usize
     requires { i < 64 }

@@ -95,7 +95,8 @@ fn toss_all(
     c
 }
 
-// Sender s is noted if target t hears it; the list is lent, so that no turn copies it.
+// Sender s is noted if target t hears it; the list is lent, so that no turn copies it. (Bounds: see board.rt. The
+// list's length goes with it to be one number of the rule; a slice of it would be cut anew each turn.)
 fn note(links: &[u64; 64], t: usize, s: usize, ids: &mut [usize; 64], count: usize) -> usize
     requires { (s < 64) × (count < 64) }
     ensures { (record { ids = ids.exit.now; count = result } ≡ note_at links.now t s (record { ids = ids.entry.now; count = count })) × (result ≤ count + 1) }
@@ -188,7 +189,8 @@ fn tally(p: Reception, h: Heard) -> Reception
     }
 }
 
-// The turn of target t; whom it hears goes into the lent list.
+// The turn of target t; whom it hears goes into the lent list. Links and loss are two of what a round fixes, and
+// CeFixed holds no links, since these are lent.
 #[tactic(auto, unfolding(crate::specs::Plan::capture_at))]
 fn capture_at(
     words: &[u64],

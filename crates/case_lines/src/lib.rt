@@ -1,13 +1,15 @@
-// RULES none. What the test programs have in common: the numbers of a line, the words of a room, one number for many.
-// The loop over the lines stands in each program's main: a shared one, lent a closure, would be no shorter.
+// RULES none. What the test programs have in common: the lines that ask, the numbers of a line, the words of a room, one
+// number for many.
 #![tactic(auto)]
 
-ghost use Rattle.std.specs.Prelude.{◌≡◌, ◌+◌, ◌*◌, ◌%◌, ◌^◌, map, IfOk};
-ghost use Rattle.std.specs.List.{fold, range_with_len};
+ghost use Rattle.std.specs.Prelude.{◌≡◌, ◌+◌, ◌*◌, ◌%◌, ◌^◌, List, ℕ, map, Ok, IfOk, OnOk};
+ghost use Rattle.std.specs.Fn.{CalledAt};
+ghost use Rattle.std.specs.List.{fold, range_with_len, FoldsTo};
 ghost use Rattle.case_lines.specs.Lines.{numbers_of, mix_of};
 
 use anyhow::Result;
 use std::alloc::{AllocError, Global};
+use std::io::Input;
 
 // The numbers of a line: decimal, with single blanks between them.
 pub fn numbers(alloc: Global, line: &str) -> Result<Vec<u64>>
@@ -18,6 +20,22 @@ pub fn numbers(alloc: Global, line: &str) -> Result<Vec<u64>>
         all.push(word.parse::<u64>()?)?;
     }
     Ok(all)
+}
+
+// Each line of standard input asks by its numbers, one after the other, up to the first that is not answered. Which
+// lines come no contract can say.
+pub fn answer_lines<F: FnMut(&[u64]) -> Result<()>>(
+    rt: &(impl Input + AllocGlobal),
+    mut answer: F,
+) -> Result<()>
+    requires { F.IsAlwaysCallable answer }
+    ensures { OnOk result ((lines : List (List ℕ)) × (last : F) × FoldsTo (λ p line q. CalledAt F.FnMut p (numbers_of line) (Ok tt) q) answer lines last) }
+{
+    for line in rt.lines(rt.alloc()) {
+        let question = numbers(rt.alloc(), line?.as_str())?;
+        answer(&question)?;
+    }
+    Ok(())
 }
 
 // So many words, each a step above the one before it, and past the greatest from 0 on.

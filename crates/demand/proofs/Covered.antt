@@ -14,7 +14,7 @@ use borrow.Author.Tests.{eq-eqb, eqb-true, le-leb}
 use Rattle.loops.specs.Pick.{either}
 use Rattle.marks.specs.Sets.{and_true, true_and}
 use Rattle.texts.specs.Put.{written}
-use Rattle.std.specs.Prelude.{Result, Ok}
+use Rattle.std.specs.Prelude.{Result, Ok, is_ok}
 use Rattle.limits.specs.declared.refusals.Refusal.{Refusal}
 use Rattle.packets.specs.Packets.{pipeline_text, limits, pipeline_within, ValidPipeline}
 use Rattle.packets.specs.Writing.{wrote_of, left_of}
@@ -26,7 +26,7 @@ use Rattle.pipeline.specs.declared.two_pc_pipeline.RoundPacket.{RoundPacket}
 use Rattle.room.specs.declared.room.RoomKind.{RoomKind}
 use Rattle.room.specs.declared.room.RoomKind.TheVariants as kinds
 use Rattle.room.specs.declared.room.Room.{Room}
-use Rattle.room.specs.Rooms.{size_of, open_of, capture_of, pipeline_of}
+use Rattle.room.specs.Rooms.{size_of, opened_by, capture_of, pipeline_of}
 use Rattle.room.specs.Slots.{capture_slots, pipeline_slots}
 use Rattle.room.proofs.Validity.{ValidRoom, HeldValid, opened_valid, propose_valid, capture_valid, pipeline_valid}
 use Rattle.room.proofs.Validity.{capture_slots_lem, pipeline_slots_lem, pipeline_covers}
@@ -85,10 +85,10 @@ ticks_valid : (c : Call) (r : Room) → ValidRoom r → (x : Room) → Memᴰ x 
 unfolding ticks
 ticks_valid (Propose v) r i x h = absurd (Memᴰ.not-nil h)
 ticks_valid (CaptureRound ws cursor rows used) r i x h =
-    ticked_valid (eqb (capture_of ws (length rows) used r cursor).refusal 0) (capture_slots ws cursor r) x
+    ticked_valid (is_ok (capture_of ws (length rows) used r cursor).told) (capture_slots ws cursor r) x
     (capture_slots_lem r i ws cursor x) h
 ticks_valid (PipelineRound ws cursor rows used) r i x h =
-    ticked_valid (eqb (pipeline_of ws (length rows) used r cursor).refusal 0) (pipeline_slots ws cursor r) x
+    ticked_valid (is_ok (pipeline_of ws (length rows) used r cursor).told) (pipeline_slots ws cursor r) x
     (pipeline_slots_lem r i ws cursor x) h
 ticks_valid (Read q) r i x h = absurd (Memᴰ.not-nil h)
 
@@ -154,13 +154,13 @@ module _ (r : Room) (held : HeldValid r) where
 
 pub held_are_valid : HeldAreValid
 held_are_valid asked e calls a h =
-    valid_texts a (moments_valid calls (open_of asked).room (opened_valid asked) a h)
+    valid_texts a (moments_valid calls (opened_by asked) (opened_valid asked e) a h)
 
 pub covered_by_bytes : CoveredByBytes
 unfolding same_bytes initiator_of
 covered_by_bytes asked e calls words cursor rows used none =
-    let r = after calls (open_of asked).room in
-    let i = calls_valid calls (open_of asked).room (opened_valid asked) in
+    let r = after calls (opened_by asked) in
+    let i = calls_valid calls (opened_by asked) (opened_valid asked e) in
     let c = pipeline_covers equal_bytes bytes_yes bytes_self words (length rows) used r cursor i none in
     record {
       texts = valid_texts _ (pipeline_valid r i words (length rows) used cursor).payloads;

@@ -17,7 +17,7 @@ use Rattle.room.specs.declared.room.RoomConf.{RoomConf}
 use Rattle.room.specs.declared.room.Room.{Room}
 use Rattle.room.specs.Kinds.{positions_of}
 use Rattle.room.specs.Capturing.{noes_of}
-use Rattle.room.specs.Rooms.{size_of, held_at, open_of}
+use Rattle.room.specs.Rooms.{size_of, held_at, opened_by}
 use Rattle.demand.specs.Calls.{Call, Propose, CaptureRound, PipelineRound, Read, handed, ticks, after, elapsed, moments}
 use Rattle.demand.specs.Demand.{AllVoteYes, Holds, Demand3}
 use Rattle.demand.specs.Texts.{HoldsValue}
@@ -148,8 +148,8 @@ renamed {a} {b} {o} {e} p q h =
 
 pub demand3 : Demand3
 demand3 asked l e calls a h =
-    let o = (open_of asked).room in
-    let s = opened asked l in
+    let o = opened_by asked in
+    let s = opened asked l e in
     let t = ran calls o s.inv in
     let x = t.before a h in
     renamed t.le.fixed (t.slots ∙ ap (λ (k : ℕ). k + elapsed calls o) s.slot ∙ zero-add (elapsed calls o)) (holds x.inv t.inv x.le)

@@ -27,9 +27,9 @@ use Rattle.room.specs.declared.room.Room.{Room}
 use Rattle.room.specs.Kinds.{positions_of}
 use Rattle.room.specs.Capturing.{noes_of}
 use Rattle.room.specs.declared.room.Asked.{Asked}
-use Rattle.room.specs.declared.room.Opening.{Opening}
-use Rattle.room.specs.Rooms.{size_of, held_at, open_refusal, new_room, open_of}
-use Rattle.readings.specs.Readings.{capture_only, outcome_read}
+use Rattle.room.specs.Rooms.{size_of, held_at, new_room, opened_by}
+use Rattle.room.specs.Kinds.{capture_only}
+use Rattle.readings.specs.Readings.{outcome_read}
 use Rattle.demand.specs.Demand.{HoldsPhase}
 use Rattle.demand.specs.Texts.{HoldsValue}
 use Rattle.demand.specs.Outcomes.{HasOutcome, OutcomeHolds, OutcomesHold, OneOutcome}
@@ -148,26 +148,21 @@ module _ {a b : Room} (i : Inv a) (j : Inv b) (l : Le a b) where
 
 -- ---- lists of calls
 
-some_position : (asked : Asked) → (open_of asked).refusal ≡ 0 → 0 < size_of (open_of asked).room
-unfolding open_of new_room
-some_position asked =
-    either_cases (λ (o : Opening). o.refusal ≡ 0 → 0 < size_of o.room) (eqb (open_refusal asked) 0)
-    (λ e z. (opened_size asked (eqb-true (open_refusal asked) 0 e)).0)
-    (λ e z. absurd (eqb-false (open_refusal asked) 0 e z))
-
 pub outcomes_hold : OutcomesHold
+unfolding new_room
 outcomes_hold asked l e calls a h =
-    let t = ran calls (open_of asked).room (opened asked l).inv in
+    let t = ran calls (opened_by asked) (opened asked l e).inv in
     let x = t.before a h in
-    let same : a.conf ≡ (open_of asked).room.conf = sym x.le.fixed ∙ t.le.fixed in
-    let n : size_of a ≡ size_of (open_of asked).room = ap positions_of same in
-    outcome_holds x.inv t.inv x.le (omega (arith, n, some_position asked e))
+    let same : a.conf ≡ (opened_by asked).conf = sym x.le.fixed ∙ t.le.fixed in
+    let n : size_of a ≡ size_of (opened_by asked) = ap positions_of same in
+    let some : 0 < size_of (opened_by asked) = (opened_size asked e).0 in
+    outcome_holds x.inv t.inv x.le (omega (arith, n, some))
 
 pub one_outcome : OneOutcome
 one_outcome asked l e xs ys a b g h t x y =
-    let i = (opened asked l).inv in
-    let p = ran xs (open_of asked).room i in
-    let q = ran ys (open_of asked).room i in
+    let i = (opened asked l e).inv in
+    let p = ran xs (opened_by asked) i in
+    let q = ran ys (opened_by asked) i in
     let before = p.before a g in
     let other = q.before b h in
     let same : a.conf ≡ b.conf = sym before.le.fixed ∙ p.le.fixed ∙ sym q.le.fixed ∙ other.le.fixed in

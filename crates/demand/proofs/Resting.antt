@@ -6,11 +6,13 @@ use mathlib.Core.Path.{◌≡◌, refl, sym, ap, ◌∙◌}
 use lib.Dec.{ltb, leb}
 use lib.Ieee.{binary64, of_bits, of_fields, le, eq, lt}
 use lib.ListN.{length, get_or}
-use borrow.Author.Tests.{le-ltb, ne_eqb}
+use borrow.Author.Tests.{le-ltb, le-leb, ne_eqb}
 use native.Mathlib.Nat.{mod-eq_of_lt}
 use native.Mathlib.Omega.{arith}
+use Rattle.std.specs.Prelude.{Ok, is_some}
 use Rattle.loops.specs.Runs.{go, tell, told_stop}
 use Rattle.limits.specs.Limits.{last_slot, last_term}
+use Rattle.graph.specs.Links.{size_test, position_test}
 use Rattle.marks.specs.Marks.{marks, any_of, all_of}
 use Rattle.merges.specs.Votes.{no_of}
 use Rattle.loops.specs.Wrap.{add64}
@@ -24,20 +26,18 @@ use Rattle.merges.specs.declared.merging.ProposalOutcome.TheVariants as outcome
 use Rattle.merges.proofs.Safety.{either_cases}
 use Rattle.merges.proofs.Growth.{proposal_term}
 use Rattle.engines.specs.Rows.{is_due, rows_refused, row_of}
-use Rattle.engines.specs.Network.{ticking, due_row, slot_row, long_refusal, late_of}
+use Rattle.engines.specs.Network.{ticking, due_row, slot_row, length_test, late_test}
 use Rattle.engines.specs.declared.network.Network.{Network}
 use Rattle.engines.specs.declared.network.RoundConf.{RoundConf}
 use Rattle.engines.proofs.Sums.{inc_is}
-use Rattle.capture.specs.Capture.{over, begun, goal_met, finished, slot_of, rows_of, start_of, after_round, refusal_of, answer_of}
+use Rattle.capture.specs.Capture.{over, begun, goal_met, finished, slot_of, rows_of, start_of, after_round, round_test, answer_of}
 use Rattle.capture.specs.declared.capture.CeState.{CeState}
 use Rattle.room.specs.declared.room.RoomKind.TheVariants as kinds
 use Rattle.room.specs.declared.room.RoomConf.{RoomConf}
 use Rattle.room.specs.declared.room.Room.{Room}
-use Rattle.room.specs.declared.room.Proposal.{Proposal}
-use Rattle.room.specs.declared.room.RoundAnswer.{RoundAnswer}
 use Rattle.room.specs.declared.capture_calls.CapturePart.{CapturePart}
-use Rattle.room.specs.Capturing.{noes_of, propose_refusal, proposed_in, propose_part, ce_state, capture_refusal, network_after, part_after, captured_by, capture_part}
-use Rattle.room.specs.Rooms.{size_of, held_at, with_capture, propose_of, capture_of}
+use Rattle.room.specs.Capturing.{noes_of, propose_test, proposed_in, propose_part, ce_state, capture_test, network_after, part_after, captured_by, capture_part, proposer}
+use Rattle.room.specs.Rooms.{size_of, held_at, with_capture, Proposal, propose_of, RoundAnswer, capture_of}
 use Rattle.room.specs.Slots.{stages_from, during, capture_slots}
 use Rattle.room.proofs.Calling.{round_fine}
 use Rattle.demand.specs.Cases.{AloneProposes, AloneEnds}
@@ -109,23 +109,23 @@ fitting numbers used m h = rw (le-ltb numbers (used * 5) (omega arith), le-ltb (
 
 module _ (ws : List ℕ) (numbers used cursor : ℕ) (r : Room) where
   abbrev pub start : CeState
-  start = start_of r.conf.round r.capture.initiator cursor (ce_state r.network r.capture)
+  start = start_of r.conf.round (proposer r.capture) cursor (ce_state r.network r.capture)
 
-  pub round_is : (c : CeState) (rows : List ℕ) → capture_refusal r.conf r.capture.proposed r.network.slot ≡ 0
+  pub round_is : (c : CeState) (rows : List ℕ) → capture_test r.conf (is_some r.capture.initiator) r.network.slot ≡ Ok tt
       → after_round ws r.conf.round start ≡ c
       → rows_of ws r.conf.round r.conf.round.length start ≡ rows
       → c.draw.short ≡ false → used * 5 + length rows ≤ numbers
       → capture_of ws numbers used r cursor
-      ≡ record { refusal = 0; cursor = c.draw.at; used = used + length rows / 5; room = with_capture r (network_after r.conf r.capture c) (part_after r.capture c) }
-  unfolding capture_of capture_part captured_by answer_of refusal_of start_of late_of
+      ≡ record { told = Ok tt; cursor = c.draw.at; used = used + length rows / 5; room = with_capture r (network_after r.conf r.capture c) (part_after r.capture c) }
+  unfolding capture_of capture_part captured_by answer_of round_test start_of late_test
   round_is c rows early run told words room =
-      let long : long_refusal r.conf.round r.network.slot ≡ 0 = round_fine r.conf r.capture.proposed r.network.slot early in
+      let long : length_test r.conf.round r.network.slot ≡ Ok tt = round_fine r.conf (is_some r.capture.initiator) r.network.slot early in
       rw (early, long, run, told, words, fitting numbers used (length rows) room)
 
-  pub early_none : r.conf.kind ≡ kinds.Capture → (ltb 0 (size_of r) && leb (size_of r) 64) ≡ true → r.capture.proposed ≡ true
-      → r.network.slot + r.conf.round.length ≤ last_slot → capture_refusal r.conf r.capture.proposed r.network.slot ≡ 0
-  unfolding capture_refusal long_refusal
-  early_none k s p h = rw (k, s, p, le-ltb last_slot (r.network.slot + r.conf.round.length) h)
+  pub early_none : r.conf.kind ≡ kinds.Capture → (ltb 0 (size_of r) && leb (size_of r) 64) ≡ true → is_some r.capture.initiator ≡ true
+      → r.network.slot + r.conf.round.length ≤ last_slot → capture_test r.conf (is_some r.capture.initiator) r.network.slot ≡ Ok tt
+  unfolding capture_test size_test length_test
+  early_none k s p h = rw (k, s, p, le-leb (r.network.slot + r.conf.round.length) last_slot h)
 
 or_true : (b : Bool) → (b || true) ≡ true
 or_true true = refl
@@ -153,7 +153,7 @@ alone_ends ws numbers used cursor r a d h fits room =
     (rows_goal ws conf s refl goal h)
     refl (omega arith) in
     record {
-      accepted = ap (λ (q : RoundAnswer). q.refusal) e;
+      accepted = ap (λ (q : RoundAnswer). q.told) e;
       drawn = ap (λ (q : RoundAnswer). q.cursor) e;
       fixed = ap (λ (q : RoundAnswer). q.room.conf) e;
       ends = ap (λ (q : RoundAnswer). q.room.network.slot) e ∙ after_slot r.conf r.capture _ ∙ inc_is r.network.slot (omega arith);
@@ -162,7 +162,7 @@ alone_ends ws numbers used cursor r a d h fits room =
       raised = ap (λ (q : RoundAnswer). q.room.capture.raised) e ∙ or_true r.capture.raised;
       held = ap (λ (q : RoundAnswer). q.room.capture.held) e;
       decided = record {
-        proposed = ap (λ (q : RoundAnswer). q.room.capture.proposed) e ∙ d.proposed;
+        proposed = ap (λ (q : RoundAnswer). is_some q.room.capture.initiator) e ∙ d.proposed;
         held = ap (λ (q : RoundAnswer). (held_at q.room 0).held) e ∙ d.held;
         phase = ap (λ (q : RoundAnswer). (held_at q.room 0).packet.phase) e ∙ d.phase;
       };
@@ -188,20 +188,20 @@ unfolding outcome_of any_holds all_hold any_of all_of standing_by rank_of
 outcome_alone ls h f = rw (h, f)
 
 pub alone_proposes : AloneProposes
-unfolding propose_of propose_part propose_refusal proposed_in
+unfolding propose_of propose_part propose_test position_test size_test proposed_in
 alone_proposes r a p l =
     let nay = noes_of r.conf in
-    let e : propose_of r 0 ≡ record { refusal = 0; room = with_capture r r.network (proposed_in r.conf r.capture 0) } =
+    let e : propose_of r 0 ≡ record { told = Ok tt; room = with_capture r r.network (proposed_in r.conf r.capture 0) } =
     rw (a.size, a.kind, ne_eqb r.capture.term last_term (λ e. omega arith)) in
     let f : (proposal_of nay (size_of r) 0 r.capture.term).phase ≡ Committed =
     ap (λ (n : ℕ). (proposal_of nay n 0 r.capture.term).phase) a.size ∙ proposal_alone nay r.capture.term (none_no _ _ 0 p) in
     let h : (held_at (propose_of r 0).room 0).held ≡ Packet = ap (λ (q : Proposal). (held_at q.room 0).held) e in
     let g : (held_at (propose_of r 0).room 0).packet.phase ≡ Committed = ap (λ (q : Proposal). (held_at q.room 0).packet.phase) e ∙ f in
     record {
-      accepted = ap (λ (q : Proposal). q.refusal) e;
+      accepted = ap (λ (q : Proposal). q.told) e;
       fixed = ap (λ (q : Proposal). q.room.conf) e;
       slot = ap (λ (q : Proposal). q.room.network.slot) e;
       term = ap (λ (q : Proposal). (held_at q.room 0).packet.term) e ∙ proposal_term nay (size_of r) 0 r.capture.term ∙ mod-eq_of_lt (omega arith);
-      decided = record { proposed = ap (λ (q : Proposal). q.room.capture.proposed) e; held = h; phase = g };
+      decided = record { proposed = ap (λ (q : Proposal). is_some q.room.capture.initiator) e; held = h; phase = g };
       outcome = outcome_alone (propose_of r 0).room.capture.held h g;
     }

@@ -4,7 +4,7 @@ use Prim.Native.Nat.{ℕ, ◌+◌, ◌≤◌}
 use native.Mathlib.Omega.{arith}
 use lib.ListN.{length}
 use Rattle.room.specs.declared.room.Room.{Room}
-use Rattle.room.specs.Rooms.{open_of}
+use Rattle.room.specs.Rooms.{opened_by}
 use Rattle.room.proofs.Spending.{Within, within_few, more, propose_within, capture_within, pipeline_within, opened_within}
 use Rattle.demand.specs.Calls.{Call, Propose, CaptureRound, PipelineRound, Read, handed}
 use Rattle.demand.specs.Rounds.{round_in, rounds_in, FewRounds}
@@ -24,6 +24,6 @@ calls_within t (c ∷ cs) k r w =
     omega (arith, h)
 
 pub few_rounds : FewRounds
-few_rounds asked calls =
-    let h = calls_within asked.transactions calls 0 (open_of asked).room (opened_within asked) in
+few_rounds asked e calls =
+    let h = calls_within asked.transactions calls 0 (opened_by asked) (opened_within asked e) in
     omega (arith, h)

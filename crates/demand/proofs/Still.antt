@@ -2,7 +2,8 @@
 use Prim.Native.Nat.{ℕ, zero, suc}
 use mathlib.Core.List.{List, [], ◌∷◌}
 use mathlib.Core.Path.{◌≡◌, refl, sym, ap, ◌∙◌, subst}
-use lib.Dec.{eqb, ltb, leb}
+use lib.Dec.{ltb, leb}
+use Rattle.std.specs.Result.{is_ok}
 use lib.ListN.{get_or, set}
 use native.Mathlib.Omega.{arith}
 use Rattle.loops.specs.Upto.{upto, upto_holds}
@@ -20,17 +21,15 @@ use Rattle.capture.specs.Capture.{start_of, after_round}
 use Rattle.flood.specs.Flood.{in_state, reset_at, reset_all, flood_start, flood_round}
 use Rattle.flood.specs.declared.flood.FloodRun.{FloodRun}
 use Rattle.pipeline.specs.Pipeline.{no_state, progressed, progress_at, progress_all}
-use Rattle.pipeline.specs.Round.{initiator_of, preparing, start_draw, round_refusal, flood_from, flood_of, close_round, run_round, round_answer}
+use Rattle.pipeline.specs.Round.{initiator_of, preparing, start_draw, round_test, PipelineAnswer, flood_from, flood_of, close_round, run_round, round_answer}
 use Rattle.pipeline.specs.declared.two_pc_pipeline.NodeTwoPcState.{NodeTwoPcState}
 use Rattle.pipeline.specs.declared.pipeline.PipelinePart.{PipelinePart}
 use Rattle.pipeline.specs.declared.prepare.Prepared.{Prepared}
 use Rattle.pipeline.specs.declared.pipeline.PipelineConf.{PipelineConf}
-use Rattle.pipeline.specs.declared.pipeline.PipelineAnswer.{PipelineAnswer}
 use Rattle.room.specs.declared.room.Room.{Room}
-use Rattle.room.specs.declared.room.RoundAnswer.{RoundAnswer}
-use Rattle.room.specs.Capturing.{network_after}
-use Rattle.room.specs.Pipelining.{pipe_conf, pipeline_refusal, pipeline_part}
-use Rattle.room.specs.Rooms.{size_of, with_pipeline, pipeline_of}
+use Rattle.room.specs.Capturing.{network_after, proposer}
+use Rattle.room.specs.Pipelining.{pipe_conf, pipeline_test, pipeline_part}
+use Rattle.room.specs.Rooms.{size_of, with_pipeline, RoundAnswer, pipeline_of}
 use Rattle.room.specs.Slots.{stages_from, capture_slots, pipeline_slots}
 use Rattle.demand.specs.Cases.{Unmoved, CaptureOfNoSlots}
 use Rattle.demand.proofs.Resting.{start, early_none, round_is}
@@ -70,14 +69,14 @@ capture_none ws numbers used cursor r n k p z l room =
     let e = round_is ws numbers used cursor r s [] (early_none ws numbers used cursor r k n p (omega arith))
     (rw z) (rw z) refl (omega arith) in
     record {
-      accepted = ap (λ (q : RoundAnswer). q.refusal) e;
+      accepted = ap (λ (q : RoundAnswer). q.told) e;
       drawn = ap (λ (q : RoundAnswer). q.cursor) e;
       rows = ap (λ (q : RoundAnswer). q.used) e ∙ omega arith;
       ticks = rw z;
       unmoved = record {
         slot = ap (λ (q : RoundAnswer). q.room.network.slot) e;
         bytes = ap (λ (q : RoundAnswer). q.room.network.bytes_sent) e;
-        counts = subst (λ (q : RoundAnswer). Kept q.room.network.nodes r.network.nodes) (sym e) (started_kept (size_of r) r.capture.initiator r.network.slot r.network.nodes);
+        counts = subst (λ (q : RoundAnswer). Kept q.room.network.nodes r.network.nodes) (sym e) (started_kept (size_of r) (proposer r.capture) r.network.slot r.network.nodes);
       };
     }
 
@@ -127,7 +126,7 @@ module _ (ws : List ℕ) (conf : PipelineConf) (w : Network) (p : PipelinePart) 
   answer_idle : (numbers used cursor : ℕ) → Idle w (round_answer ws numbers used conf w p cursor).network
   unfolding round_answer
   answer_idle numbers used cursor =
-      either_cases (λ (a : PipelineAnswer). Idle w a.network) (eqb (round_refusal ws numbers used conf w p cursor) 0)
+      either_cases (λ (a : PipelineAnswer). Idle w a.network) (is_ok (round_test ws numbers used conf w p cursor))
       (λ e. run_idle (start_draw cursor))
       (λ e. same_idle)
 
@@ -135,7 +134,7 @@ pub pipeline_none : (ws : List ℕ) (numbers used cursor : ℕ) (r : Room) → r
 unfolding pipeline_of pipeline_part
 pipeline_none ws numbers used cursor r z =
     let a = answer_idle ws (pipe_conf r.conf) r.network r.pipeline z numbers used cursor in
-    either_cases (λ (q : PipelineAnswer). Unmoved r (with_pipeline r q.network q.part)) (eqb (pipeline_refusal r.conf r.pipeline.stop r.network.slot) 0)
+    either_cases (λ (q : PipelineAnswer). Unmoved r (with_pipeline r q.network q.part)) (is_ok (pipeline_test r.conf r.pipeline.stop r.network.slot))
     (λ e. record { slot = a.slot; bytes = a.sent; counts = a.counts })
     (λ e. record { slot = refl; bytes = refl; counts = λ v. alike (get_or r.network.nodes v no_node) })
 

@@ -20,7 +20,7 @@ use Rattle.packets.proofs.Promises.{ce_promises}
 use Rattle.room.specs.declared.room.RoomKind.{RoomKind}
 use Rattle.room.specs.declared.room.RoomKind.TheVariants as kinds
 use Rattle.room.specs.declared.room.Room.{Room}
-use Rattle.room.specs.Rooms.{size_of, held_at, open_of}
+use Rattle.room.specs.Rooms.{size_of, held_at, opened_by}
 use Rattle.readings.specs.Readings.{ce_answer_by, ce_left_by, text_by, text_of, left_by, text_left}
 use Rattle.readings.proofs.Answers.{place_held}
 use Rattle.demand.specs.Demand.{text_in, held_text}
@@ -72,6 +72,6 @@ module _ (r : Room) (i : Inv r) where
 
 pub texts_give : TextsGive
 texts_give asked l e calls a h =
-    let o = (open_of asked).room in
-    let t = ran calls o (opened asked l).inv in
+    let o = opened_by asked in
+    let t = ran calls o (opened asked l e).inv in
     same_texts a (t.before a h).inv

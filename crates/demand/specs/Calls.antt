@@ -1,6 +1,6 @@
 -- A room's calls as a list, by RULES 11.8 and 11.4: what each hands back, the slots that it ticks, and every moment on
 -- the way. Assumes nothing: these are definitions.
-use Rattle.std.specs.Prelude.{ℕ, ◌+◌, List, [], ◌∷◌, ◌++◌, ◌≡◌, eqb, length}
+use Rattle.std.specs.Prelude.{ℕ, ◌+◌, List, [], ◌∷◌, ◌++◌, ◌≡◌, is_ok, length}
 use Rattle.loops.specs.Pick.{either}
 use Rattle.room.specs.declared.room.Room.{Room}
 use Rattle.room.specs.Rooms.{propose_of, capture_of, pipeline_of}
@@ -25,8 +25,8 @@ handed (Read q) r = r
 -- the rooms after each slot that a call ticks: none where it is refused
 unfoldable pub ticks : Call → Room → List Room
 ticks (Propose v) r = []
-ticks (CaptureRound ws cursor rows used) r = either (eqb (capture_of ws (length rows) used r cursor).refusal 0) (capture_slots ws cursor r) []
-ticks (PipelineRound ws cursor rows used) r = either (eqb (pipeline_of ws (length rows) used r cursor).refusal 0) (pipeline_slots ws cursor r) []
+ticks (CaptureRound ws cursor rows used) r = either (is_ok (capture_of ws (length rows) used r cursor).told) (capture_slots ws cursor r) []
+ticks (PipelineRound ws cursor rows used) r = either (is_ok (pipeline_of ws (length rows) used r cursor).told) (pipeline_slots ws cursor r) []
 ticks (Read q) r = []
 
 -- the room behind a list of calls, each made on what the call before it left

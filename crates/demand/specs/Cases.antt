@@ -1,12 +1,12 @@
 -- The marked cases of RULES 11.12, 8.10 and 9.7, as one table over the rules that the contracts of the room and of the
 -- layers below cite. Assumes nothing: these are statements, proved in one go in proofs/Cases.antt.
-use Rattle.std.specs.Prelude.{ℕ, ◌+◌, ◌*◌, ◌≤◌, ◌<◌, Bool, true, false, ◌&&◌, List, [], ◌∷◌, map, ◌≡◌, eqb, length, get_or, Float, Ok}
+use Rattle.std.specs.Prelude.{ℕ, ◌+◌, ◌*◌, ◌≤◌, ◌<◌, Bool, true, false, ◌&&◌, List, [], ◌∷◌, map, ◌≡◌, eqb, length, get_or, Float, Ok, Err, is_some}
 use Rattle.std.specs.Float.{binary64}
 use Rattle.std.specs.Float.Ieee.{of_bits, lt}
 use Rattle.limits.specs.Limits.{last_slot, last_term}
-use Rattle.limits.specs.Refusals.{bad_loss}
+use Rattle.limits.specs.declared.refusals.Refusal.TheVariants.{BadLoss}
 use Rattle.std.specs.Result.{result_unwrap_or}
-use Rattle.graph.specs.Links.{is_size, no_graph, rows_of, graph_refusal, topology_of}
+use Rattle.graph.specs.Links.{is_size, no_graph, rows_of, graph_test, topology_of}
 use Rattle.merges.specs.Votes.{no_of}
 use Rattle.merges.specs.Merging.{payload_of, Noes, merge_of, redundant, network_goal_of, outcome_of}
 use Rattle.packets.specs.declared.TwoPcPhase.TheVariants.{Prepare, Committed}
@@ -22,11 +22,8 @@ use Rattle.room.specs.declared.room.RoomKind.{RoomKind}
 use Rattle.room.specs.declared.room.RoomKind.TheVariants as kinds
 use Rattle.room.specs.declared.room.Room.{Room}
 use Rattle.room.specs.declared.room.Asked.{Asked}
-use Rattle.room.specs.declared.room.Opening.{Opening}
-use Rattle.room.specs.declared.room.Proposal.{Proposal}
-use Rattle.room.specs.declared.room.RoundAnswer.{RoundAnswer}
 use Rattle.room.specs.Kinds.{is_pipeline}
-use Rattle.room.specs.Rooms.{size_of, held_at, open_of, propose_of, capture_of, pipeline_of}
+use Rattle.room.specs.Rooms.{size_of, held_at, open_test, opened_by, Proposal, propose_of, RoundAnswer, capture_of, pipeline_of}
 use Rattle.room.specs.Slots.{capture_slots, pipeline_slots}
 use Rattle.readings.specs.Readings.{outcome_read}
 
@@ -68,20 +65,23 @@ asking kind s transactions =
 
 -- a capture room of them with rounds of 20 slots, the proposal of position 0, and one round: no words, a buffer of one
 -- row
-abbrev pub capture_room : Opening
-capture_room = open_of (asking kinds.Capture (plain true 20) 1)
+abbrev pub capture_asked : Asked
+capture_asked = asking kinds.Capture (plain true 20) 1
+
+abbrev pub capture_room : Room
+capture_room = opened_by capture_asked
 
 abbrev pub proposal : Proposal
-proposal = propose_of capture_room.room 0
+proposal = propose_of capture_room 0
 
 abbrev pub captured : RoundAnswer
 captured = capture_of [] 5 0 proposal.room 0
 
 pub record LineOfTwo : Type 0 where
   pub line : rows_of pair ≡ topology_of 2 2 0
-  pub opens : capture_room.refusal ≡ 0
-  pub proposes : proposal.refusal ≡ 0
-  pub runs : captured.refusal ≡ 0
+  pub opens : open_test capture_asked ≡ Ok tt
+  pub proposes : proposal.told ≡ Ok tt
+  pub runs : captured.told ≡ Ok tt
   -- the two packets sent, by the texts: position 0's in the first slot, position 1's, which it holds from then on, in the second
   pub first : payload_len (held_at proposal.room 0) ≡ 85
   pub second : map (λ r. payload_len (held_at r 1)) (capture_slots [] 0 proposal.room) ≡ 87 ∷ 87 ∷ 87 ∷ []
@@ -97,25 +97,29 @@ pub record LineOfTwo : Type 0 where
   pub outcome : outcome_of 2 captured.room.capture.held ≡ outcome.Committed
 
 -- The same with rounds of one slot: position 1 has committed by then, and position 0 has not heard of it.
-abbrev pub short_room : Opening
-short_room = open_of (asking kinds.Capture (plain true 1) 1)
+abbrev pub short_asked : Asked
+short_asked = asking kinds.Capture (plain true 1) 1
+
+abbrev pub short_room : Room
+short_room = opened_by short_asked
 
 abbrev pub cut : RoundAnswer
-cut = capture_of [] 5 0 (propose_of short_room.room 0).room 0
+cut = capture_of [] 5 0 (propose_of short_room 0).room 0
 
 pub record DeadlineMet : Type 0 where
-  pub runs : cut.refusal ≡ 0
+  pub opens : open_test short_asked ≡ Ok tt
+  pub runs : cut.told ≡ Ok tt
   pub proposer : (held_at cut.room 0).packet.phase ≡ Prepare
   pub hearer : (held_at cut.room 1).packet.phase ≡ Committed
   -- the outcome that is read out: before anybody proposed, and when the slots have run out
-  pub before : outcome_read short_room.room ≡ Ok outcome.TimedOut
+  pub before : outcome_read short_room ≡ Ok outcome.TimedOut
   pub outcome : outcome_read cut.room ≡ Ok outcome.TimedOut
 
 -- Two positions of which 0 hears 1 and nobody hears 0, timeout 1, rounds of 3 slots, and the coins no, yes, no:
 -- position 1, which holds nothing, recovers in the second slot and floods in the third.
-abbrev pub recovery_room : Opening
-recovery_room =
-    open_of (record {
+abbrev pub recovery_asked : Asked
+recovery_asked =
+    record {
       kind = kinds.Capture;
       graph = result_unwrap_or (rows_of (0 ∷ 1 ∷ [])) no_graph;
       settings =
@@ -132,14 +136,18 @@ recovery_room =
       term = 0;
       interval = last_slot;
       bound = last_slot;
-    })
+    }
+
+abbrev pub recovery_room : Room
+recovery_room = opened_by recovery_asked
 
 abbrev pub recovered : RoundAnswer
 recovered =
-    capture_of (18446744073709551615 ∷ 0 ∷ 18446744073709551615 ∷ []) 5 0 (propose_of recovery_room.room 0).room 0
+    capture_of (18446744073709551615 ∷ 0 ∷ 18446744073709551615 ∷ []) 5 0 (propose_of recovery_room 0).room 0
 
 pub record EmptyRecovery : Type 0 where
-  pub runs : recovered.refusal ≡ 0
+  pub opens : open_test recovery_asked ≡ Ok tt
+  pub runs : recovered.told ≡ Ok tt
   pub empty : payload_len (held_at recovered.room 1) ≡ 0
   pub timeouts : recovered.room.network.metrics.ce_timeouts ≡ 1
   pub attempts : recovered.room.network.metrics.rx_attempts ≡ 1
@@ -148,19 +156,22 @@ pub record EmptyRecovery : Type 0 where
 
 -- a pipeline room of them with no transactions, whose round slots are not given, and one round: no words, a buffer of
 -- one row
-abbrev pub pipeline_room : Opening
-pipeline_room = open_of (asking kinds.Pipeline (plain false 0) 0)
+abbrev pub pipeline_asked : Asked
+pipeline_asked = asking kinds.Pipeline (plain false 0) 0
+
+abbrev pub pipeline_room : Room
+pipeline_room = opened_by pipeline_asked
 
 abbrev pub flooded : RoundAnswer
-flooded = pipeline_of [] 5 0 pipeline_room.room 0
+flooded = pipeline_of [] 5 0 pipeline_room 0
 
 pub record MeshOfTwo : Type 0 where
   pub mesh : rows_of pair ≡ topology_of 1 2 0
-  pub opens : pipeline_room.refusal ≡ 0
-  pub runs : flooded.refusal ≡ 0
+  pub opens : open_test pipeline_asked ≡ Ok tt
+  pub runs : flooded.told ≡ Ok tt
   -- two slots of the three that it may last
   pub full : flooded.room.conf.round.length ≡ 3
-  pub slots : map (λ r. r.network.slot) (pipeline_slots [] 0 pipeline_room.room) ≡ 1 ∷ 2 ∷ []
+  pub slots : map (λ r. r.network.slot) (pipeline_slots [] 0 pipeline_room) ≡ 1 ∷ 2 ∷ []
   pub ends : flooded.room.network.slot ≡ 2
   pub counts : counts_of_two flooded.room ≡ 1 ∷ 2 ∷ 1 ∷ []
   pub covered : flooded.room.network.metrics.flood_nodes_covered ≡ 2
@@ -187,13 +198,13 @@ pub record Alone (r : Room) : Type 0 where
 
 -- a proposal was made, and what the position holds is Committed
 pub record Decided (r : Room) : Type 0 where
-  pub proposed : r.capture.proposed ≡ true
+  pub proposed : is_some r.capture.initiator ≡ true
   pub held : (held_at r 0).held ≡ Packet
   pub phase : (held_at r 0).packet.phase ≡ Committed
 
 -- The proposal in room r is accepted, and decides the next term; the slot stays.
 pub record AloneProposed (r : Room) (q : Proposal) : Type 0 where
-  pub accepted : q.refusal ≡ 0
+  pub accepted : q.told ≡ Ok tt
   pub fixed : q.room.conf ≡ r.conf
   pub slot : q.room.network.slot ≡ r.network.slot
   pub term : (held_at q.room 0).packet.term ≡ r.capture.term + 1
@@ -207,7 +218,7 @@ AloneProposes =
 
 -- The round of room r is accepted, draws no word, has one slot, in which nothing is sent, and reaches the goal.
 pub record AloneEnded (ws : List ℕ) (cursor : ℕ) (r : Room) (q : RoundAnswer) : Type 0 where
-  pub accepted : q.refusal ≡ 0
+  pub accepted : q.told ≡ Ok tt
   pub drawn : q.cursor ≡ cursor
   pub fixed : q.room.conf ≡ r.conf
   pub ends : q.room.network.slot ≡ r.network.slot + 1
@@ -233,7 +244,7 @@ pub record Unmoved (r q : Room) : Type 0 where
   pub counts : (v : ℕ) → Alike (node q v) (node r v)
 
 pub record NoTick (ws : List ℕ) (cursor used : ℕ) (r : Room) (q : RoundAnswer) : Type 0 where
-  pub accepted : q.refusal ≡ 0
+  pub accepted : q.told ≡ Ok tt
   pub drawn : q.cursor ≡ cursor
   pub rows : q.used ≡ used
   pub ticks : capture_slots ws cursor r ≡ []
@@ -242,7 +253,7 @@ pub record NoTick (ws : List ℕ) (cursor used : ℕ) (r : Room) (q : RoundAnswe
 -- every capture round of no slots that refusals 2, 11, 12, 15 and 17 leave
 abbrev pub CaptureOfNoSlots : Type 0
 CaptureOfNoSlots =
-    (ws : List ℕ) (numbers used cursor : ℕ) (r : Room) → is_size (size_of r) ≡ true → r.conf.kind ≡ kinds.Capture → r.capture.proposed ≡ true
+    (ws : List ℕ) (numbers used cursor : ℕ) (r : Room) → is_size (size_of r) ≡ true → r.conf.kind ≡ kinds.Capture → is_some r.capture.initiator ≡ true
     → r.conf.round.length ≡ 0 → r.network.slot ≤ last_slot → used * 5 ≤ numbers
     → NoTick ws cursor used r (capture_of ws numbers used r cursor)
 
@@ -252,9 +263,9 @@ pub record PipelineOfNoSlots : Type 0 where
   pub ticks : (ws : List ℕ) (cursor : ℕ) (r : Room) → r.conf.round.length ≡ 0 → pipeline_slots ws cursor r ≡ []
   pub unmoved : (ws : List ℕ) (numbers used cursor : ℕ) (r : Room) → r.conf.round.length ≡ 0 → Unmoved r (pipeline_of ws numbers used r cursor).room
   -- one that is accepted: two positions, no transactions
-  pub opens : (open_of (asking kinds.Pipeline (plain true 0) 0)).refusal ≡ 0
-  pub full : (open_of (asking kinds.Pipeline (plain true 0) 0)).room.conf.round.length ≡ 0
-  pub accepted : (pipeline_of [] 0 0 (open_of (asking kinds.Pipeline (plain true 0) 0)).room 0).refusal ≡ 0
+  pub opens : open_test (asking kinds.Pipeline (plain true 0) 0) ≡ Ok tt
+  pub full : (opened_by (asking kinds.Pipeline (plain true 0) 0)).conf.round.length ≡ 0
+  pub accepted : (pipeline_of [] 0 0 (opened_by (asking kinds.Pipeline (plain true 0) 0)) 0).told ≡ Ok tt
 
 -- ---- merges
 
@@ -268,13 +279,13 @@ pub record EmptyHeard : Type 0 where
 -- in any room that nothing else refuses
 abbrev pub MinusZero : Type 0
 MinusZero =
-    (a : Asked) → graph_refusal a.graph ≡ 0 → a.settings.loss_rate ≡ of_bits binary64 0x8000_0000_0000_0000
+    (a : Asked) → graph_test a.graph ≡ Ok tt → a.settings.loss_rate ≡ of_bits binary64 0x8000_0000_0000_0000
     → (is_pipeline a.kind && eqb a.settings.flood_repeats 0) ≡ false → 1 ≤ a.interval → a.transactions ≤ 64
-    → (open_of a).refusal ≡ 0
+    → open_test a ≡ Ok tt
 
 -- in any room that refusals 2 and 3 leave
 abbrev pub One : Type 0
-One = (a : Asked) → graph_refusal a.graph ≡ 0 → a.settings.loss_rate ≡ of_bits binary64 0x3FF0_0000_0000_0000 → (open_of a).refusal ≡ bad_loss
+One = (a : Asked) → graph_test a.graph ≡ Ok tt → a.settings.loss_rate ≡ of_bits binary64 0x3FF0_0000_0000_0000 → open_test a ≡ Err BadLoss
 
 -- ---- the table
 

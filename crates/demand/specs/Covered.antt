@@ -15,7 +15,7 @@ use Rattle.pipeline.specs.Round.{no_packet}
 use Rattle.room.specs.declared.room.RoomKind.TheVariants as kinds
 use Rattle.room.specs.declared.room.Room.{Room}
 use Rattle.room.specs.declared.room.Asked.{Asked}
-use Rattle.room.specs.Rooms.{size_of, open_of, pipeline_of}
+use Rattle.room.specs.Rooms.{size_of, open_test, opened_by, pipeline_of}
 use Rattle.readings.specs.Readings.{text_of, text_left}
 use Rattle.demand.specs.Calls.{Call, after, moments}
 
@@ -45,8 +45,8 @@ pub record ValidTexts (r : Room) : Type 0 where
 -- For every accepted opening, every list of calls and every moment of it.
 abbrev pub HeldAreValid : Type 0
 HeldAreValid =
-    (asked : Asked) → (open_of asked).refusal ≡ 0
-    → (calls : List Call) (a : Room) → Memᴰ a (moments calls (open_of asked).room)
+    (asked : Asked) → open_test asked ≡ Ok tt
+    → (calls : List Call) (a : Room) → Memᴰ a (moments calls (opened_by asked))
     → ValidTexts a
 
 -- ---- covered
@@ -85,8 +85,8 @@ pub record Covers (i : ℕ) (a b : Room) : Type 0 where
 -- that of position r mod n.
 abbrev pub CoveredByBytes : Type 0
 CoveredByBytes =
-    (asked : Asked) → (open_of asked).refusal ≡ 0
+    (asked : Asked) → open_test asked ≡ Ok tt
     → (calls : List Call) (words : List ℕ) (cursor : ℕ) (rows : List ℕ) (used : ℕ)
-    → let r = after calls (open_of asked).room in
+    → let r = after calls (opened_by asked) in
     let a = pipeline_of words (length rows) used r cursor in
-    a.refusal ≡ 0 → Covers (r.pipeline.round % size_of r) r a.room
+    a.told ≡ Ok tt → Covers (r.pipeline.round % size_of r) r a.room

@@ -19,7 +19,7 @@ use Rattle.room.specs.declared.room.RoomKind.TheVariants as kinds
 use Rattle.room.specs.declared.room.Room.{Room}
 use Rattle.room.specs.declared.room.Asked.{Asked}
 use Rattle.room.specs.Capturing.{noes_of}
-use Rattle.room.specs.Rooms.{size_of, held_at, open_of}
+use Rattle.room.specs.Rooms.{size_of, held_at, open_test, opened_by}
 use Rattle.demand.specs.Calls.{Call, after, elapsed, moments}
 
 -- the log of position v
@@ -78,6 +78,6 @@ pub record Holds (o : Room) (e : ℕ) (a b : Room) : Type 0 where
 -- For every accepted opening, every list of calls and every earlier moment.
 abbrev pub Demand3 : Type 0
 Demand3 =
-    (asked : Asked) → asked.term < 2 ^ 64 → (open_of asked).refusal ≡ 0
-    → (calls : List Call) (a : Room) → Memᴰ a (moments calls (open_of asked).room)
-    → Holds (open_of asked).room (elapsed calls (open_of asked).room) a (after calls (open_of asked).room)
+    (asked : Asked) → asked.term < 2 ^ 64 → open_test asked ≡ Ok tt
+    → (calls : List Call) (a : Room) → Memᴰ a (moments calls (opened_by asked))
+    → Holds (opened_by asked) (elapsed calls (opened_by asked)) a (after calls (opened_by asked))

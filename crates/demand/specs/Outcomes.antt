@@ -8,7 +8,7 @@ use Rattle.merges.specs.declared.merging.ProposalOutcome.TheVariants.{Committed,
 use Rattle.room.specs.declared.room.RoomKind.TheVariants as kinds
 use Rattle.room.specs.declared.room.Room.{Room}
 use Rattle.room.specs.declared.room.Asked.{Asked}
-use Rattle.room.specs.Rooms.{size_of, open_of}
+use Rattle.room.specs.Rooms.{size_of, open_test, opened_by}
 use Rattle.readings.specs.Readings.{outcome_read}
 use Rattle.demand.specs.Calls.{Call, after, moments}
 use Rattle.demand.specs.Demand.{HoldsPhase}
@@ -38,14 +38,14 @@ pub record OutcomeHolds (a b : Room) : Type 0 where
 -- For every accepted opening, every list of calls and every earlier moment.
 abbrev pub OutcomesHold : Type 0
 OutcomesHold =
-    (asked : Asked) → asked.term < 2 ^ 64 → (open_of asked).refusal ≡ 0
-    → (calls : List Call) (a : Room) → Memᴰ a (moments calls (open_of asked).room)
-    → OutcomeHolds a (after calls (open_of asked).room)
+    (asked : Asked) → asked.term < 2 ^ 64 → open_test asked ≡ Ok tt
+    → (calls : List Call) (a : Room) → Memᴰ a (moments calls (opened_by asked))
+    → OutcomeHolds a (after calls (opened_by asked))
 
 -- Whichever two lists of calls are made on one opening, no moment of the one has a term committed that a moment of the
 -- other has aborted. The two lists may be the same.
 abbrev pub OneOutcome : Type 0
 OneOutcome =
-    (asked : Asked) → asked.term < 2 ^ 64 → (open_of asked).refusal ≡ 0
-    → (xs ys : List Call) (a b : Room) → Memᴰ a (moments xs (open_of asked).room) → Memᴰ b (moments ys (open_of asked).room)
+    (asked : Asked) → asked.term < 2 ^ 64 → open_test asked ≡ Ok tt
+    → (xs ys : List Call) (a b : Room) → Memᴰ a (moments xs (opened_by asked)) → Memᴰ b (moments ys (opened_by asked))
     → (t : ℕ) → HasOutcome a t Committed → HasOutcome b t Aborted → ⊥

@@ -1,16 +1,16 @@
 -- RULES 10.11 and 11.11: how many rounds a pipeline room accepts. Assumes nothing: it is proved in proofs/Rounds.antt.
-use Rattle.std.specs.Prelude.{List, [], ◌∷◌, ℕ, ◌+◌, ◌≤◌, eqb, length}
+use Rattle.std.specs.Prelude.{List, [], ◌∷◌, ℕ, ◌+◌, ◌≡◌, ◌≤◌, Ok, is_ok, length}
 use Rattle.loops.specs.Pick.{either}
 use Rattle.room.specs.declared.room.Room.{Room}
 use Rattle.room.specs.declared.room.Asked.{Asked}
-use Rattle.room.specs.Rooms.{open_of, pipeline_of}
+use Rattle.room.specs.Rooms.{open_test, opened_by, pipeline_of}
 use Rattle.demand.specs.Calls.{Call, Propose, CaptureRound, PipelineRound, Read, handed}
 
 -- 1 for a pipeline round that is accepted, 0 for any other call
 unfoldable pub round_in : Call → Room → ℕ
 round_in (Propose v) r = 0
 round_in (CaptureRound ws cursor rows used) r = 0
-round_in (PipelineRound ws cursor rows used) r = either (eqb (pipeline_of ws (length rows) used r cursor).refusal 0) 1 0
+round_in (PipelineRound ws cursor rows used) r = either (is_ok (pipeline_of ws (length rows) used r cursor).told) 1 0
 round_in (Read q) r = 0
 
 -- the pipeline rounds that are accepted in a list of calls
@@ -20,4 +20,5 @@ rounds_in (c ∷ cs) r = round_in c r + rounds_in cs (handed c r)
 
 -- a room of T transactions accepts at most T + 1002, whatever the calls
 abbrev pub FewRounds : Type 0
-FewRounds = (asked : Asked) (calls : List Call) → rounds_in calls (open_of asked).room ≤ asked.transactions + 1002
+FewRounds =
+    (asked : Asked) → open_test asked ≡ Ok tt → (calls : List Call) → rounds_in calls (opened_by asked) ≤ asked.transactions + 1002

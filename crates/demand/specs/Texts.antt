@@ -7,7 +7,7 @@ use Rattle.merges.specs.declared.merging.Held.TheVariants.{Packet}
 use Rattle.room.specs.declared.room.RoomKind.TheVariants as kinds
 use Rattle.room.specs.declared.room.Room.{Room}
 use Rattle.room.specs.declared.room.Asked.{Asked}
-use Rattle.room.specs.Rooms.{size_of, held_at, open_of}
+use Rattle.room.specs.Rooms.{size_of, held_at, open_test, opened_by}
 use Rattle.readings.specs.Readings.{text_of, text_left}
 use Rattle.demand.specs.Calls.{Call, moments}
 use Rattle.demand.specs.Demand.{held_text, HoldsPhase}
@@ -34,6 +34,6 @@ pub record SameTexts (r : Room) : Type 0 where
 -- For every accepted opening, every list of calls and every moment of it.
 abbrev pub TextsGive : Type 0
 TextsGive =
-    (asked : Asked) → asked.term < 2 ^ 64 → (open_of asked).refusal ≡ 0
-    → (calls : List Call) (a : Room) → Memᴰ a (moments calls (open_of asked).room)
+    (asked : Asked) → asked.term < 2 ^ 64 → open_test asked ≡ Ok tt
+    → (calls : List Call) (a : Room) → Memᴰ a (moments calls (opened_by asked))
     → SameTexts a

@@ -174,9 +174,5 @@ fn answer(
 
 fn main(rt: HostRuntime) -> Result<()> {
     let mut room = None;
-    for line in rt.lines(rt.alloc()) {
-        let question = case_lines::numbers(rt.alloc(), line?.as_str())?;
-        answer(&rt, &mut room, &question)?;
-    }
-    Ok(())
+    case_lines::answer_lines(&rt, |question| answer(&rt, &mut room, question))
 }

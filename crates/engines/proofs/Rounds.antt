@@ -1,16 +1,19 @@
 -- Runs of slots with their rows, for both kinds of round: the invariants of the loop that counts rows and of the loop that writes them, with one law for each
 -- of their needs; and the refusals that a run tells. Assumes nothing.
-use Rattle.std.proofs.Common.{◌≡◌, ℕ, suc, ◌+◌, ◌-◌, ◌*◌, ◌/◌, ◌^◌, ◌<◌, ◌≤◌, Bool, true, false, ◌||◌, ltb, List, [], ◌∷◌, ◌++◌, length, take, drop, sym, refl, ap, ◌∙◌, true≢false, append_assoc, append-nil, arith, length-append, length-drop, drop_of_length-le, length-take-le, take_all, drop-drop, ltb-false, ltb-true}
+use Rattle.std.proofs.Common.{◌≡◌, ℕ, suc, ◌+◌, ◌-◌, ◌*◌, ◌/◌, ◌^◌, ◌<◌, ◌≤◌, Bool, true, false, not, ◌||◌, ltb, leb, leb-true, Ok, List, [], ◌∷◌, ◌++◌, length, take, drop, sym, refl, ap, ◌∙◌, true≢false, append_assoc, append-nil, arith, length-append, length-drop, drop_of_length-le, length-take-le, take_all, drop-drop, ltb-false, ltb-true}
 use native.Mathlib.Decide.{dec_le}
 use lib.Seq.{sets, length-sets, sets-eq, take-nil, take-append-add}
 use borrow.Author.Tests.{lt-leb}
+use Rattle.limits.specs.Refusals.{holds_or}
+use Rattle.limits.specs.declared.refusals.Refusal.TheVariants.{TooLong, RowsShort}
+use Rattle.limits.proofs.Tests.{no_err, held}
 use Rattle.loops.specs.Pick.{either}
 use Rattle.loops.specs.Runs.{runs, runs_none, runs_stop, runs_turn, told_none, told_stop, told_turn}
 use Rattle.loops.specs.Leaps.{Leaps, runs_leap, told_leap}
 use Rattle.loops.specs.Stores.{sets_append}
 use Rattle.engines.specs.Nodes.{inc, ticked_all}
 use Rattle.engines.specs.Rows.{is_due, next_row, due_after, cells, row_of, rows_refused}
-use Rattle.engines.specs.Network.{due_row, slot_row, long_refusal, late_of}
+use Rattle.engines.specs.Network.{due_row, slot_row, length_test, late_test}
 use Rattle.engines.specs.Rounds.{rows_in, due_in, placed, Stepped, Surveyed}
 use Rattle.engines.specs.declared.rows.Row.{Row}
 use Rattle.engines.specs.declared.words.Draw.{Draw}
@@ -163,33 +166,30 @@ placed_whole rows l at due e h =
 -- ---- refusals
 
 -- an accepted round does not pass the last slot
-pub length_fits : (conf : RoundConf) (slot : ℕ) → long_refusal conf slot ≡ 0 → slot + conf.length ≤ 4294967295
-unfolding long_refusal
-length_fits conf slot e = by (ltb 4294967295 (slot + conf.length)) refl e
-  where
-    by : (x : Bool) → ltb 4294967295 (slot + conf.length) ≡ x → ◌≡◌ {A = ℕ} (either x 15 0) 0 → slot + conf.length ≤ 4294967295
-    by true p q = absurd (omega arith)
-    by false p q = ltb-false 4294967295 (slot + conf.length) p
+pub length_fits : (conf : RoundConf) (slot : ℕ) → length_test conf slot ≡ Ok tt → slot + conf.length ≤ 4294967295
+unfolding length_test
+length_fits conf slot e = leb-true (slot + conf.length) 4294967295 (held (leb (slot + conf.length) 4294967295) TooLong e)
 
 -- What the run without rows told is what the whole run tells.
 pub late_is : {S : Type 0} (network : S → Network) (over : S → Bool) (slot : S → S) (conf : RoundConf) (draw : S → Draw) (k : ℕ) (s t : S) (due numbers used : ℕ) → Surveyed network over slot conf draw k s t due
-    → late_of numbers used (draw t).short due ≡ late_of numbers used (draw (runs over slot k s)).short (due_in network over slot conf k s)
-unfolding late_of
+    → late_test numbers used (draw t).short due ≡ late_test numbers used (draw (runs over slot k s)).short (due_in network over slot conf k s)
+unfolding late_test
 late_is network over slot conf draw k s t due numbers used w = by (draw t).short refl
   where
-    by : (b : Bool) → (draw t).short ≡ b → either {A = ℕ} (draw t).short 16 (either (rows_refused numbers used due) 17 0) ≡ either (draw (runs over slot k s)).short 16 (either (rows_refused numbers used (due_in network over slot conf k s)) 17 0)
+    -- the run may be another where words ran short, and then so may its rows
+    by : (b : Bool) → (draw t).short ≡ b → late_test numbers used (draw t).short due ≡ late_test numbers used (draw (runs over slot k s)).short (due_in network over slot conf k s)
     by true e = rw (← w.short, e)
     by false e = let d : due_in network over slot conf k s ≡ due = omega (arith, w.rows e) in rw (← w.short, e, d)
 
 -- An accepted run has words enough, and place for its rows.
-pub late_fits : (numbers used due : ℕ) (short : Bool) → late_of numbers used short due ≡ 0 → (short ≡ false) × ((used + due) * 5 ≤ numbers)
-unfolding late_of rows_refused
-late_fits numbers used due true e = absurd (let z : ◌≡◌ {A = ℕ} 16 0 = e in omega arith)
+pub late_fits : (numbers used due : ℕ) (short : Bool) → late_test numbers used short due ≡ Ok tt → (short ≡ false) × ((used + due) * 5 ≤ numbers)
+unfolding late_test rows_refused
+late_fits numbers used due true e = no_err e
 late_fits numbers used due false e = (refl, by (ltb numbers (used * 5)) (ltb ((numbers - used * 5) / 5) due) refl refl e)
   where
-    by : (x y : Bool) → ltb numbers (used * 5) ≡ x → ltb ((numbers - used * 5) / 5) due ≡ y → ◌≡◌ {A = ℕ} (either (x || y) 17 0) 0 → (used + due) * 5 ≤ numbers
-    by true y p q z = absurd (omega arith)
-    by false true p q z = absurd (omega arith)
+    by : (x y : Bool) → ltb numbers (used * 5) ≡ x → ltb ((numbers - used * 5) / 5) due ≡ y → holds_or (not (x || y)) RowsShort ≡ Ok tt → (used + due) * 5 ≤ numbers
+    by true y p q z = no_err z
+    by false true p q z = no_err z
     by false false p q z = omega (arith, ltb-false numbers (used * 5) p, ltb-false ((numbers - used * 5) / 5) due q)
 
 -- ---- stretches

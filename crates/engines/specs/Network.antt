@@ -1,11 +1,13 @@
 -- RULES 7.1, 7.3, 7.5, 3.5, 11.3 and 11.6, and refusals 15 to 17 of RULES 15: what both kinds of room have and both
 -- kinds of round move, and the rules that both kinds of round share. Assumes nothing.
-use Rattle.std.specs.Prelude.{ℕ, ◌+◌, Bool, List, [], length, replicate, ◌==◌, nat_le, nat_lt}
+use Rattle.std.specs.Prelude.{ℕ, ◌+◌, Bool, not, List, [], length, replicate, nat_le, leb}
+use Rattle.std.specs.Result.{result_and}
 use Rattle.std.proofs.lemmas.List.Edits.{sets}
 use Rattle.loops.specs.Pick.{either}
 use Rattle.loops.specs.Wrap.{add64}
 use Rattle.limits.specs.Limits.{last_slot, header_bytes}
-use Rattle.limits.specs.Refusals.{too_long, words_short, rows_short}
+use Rattle.limits.specs.Refusals.{Tested, holds_or}
+use Rattle.limits.specs.declared.refusals.Refusal.TheVariants.{TooLong, WordsShort, RowsShort}
 use Rattle.engines.specs.Metrics.{no_metrics}
 use Rattle.engines.specs.Nodes.{inc, no_node, ticked_all}
 use Rattle.engines.specs.Rows.{is_due, next_row, row_of, cells, rows_refused}
@@ -60,14 +62,11 @@ written_end numbers at row = either (nat_le (at + length row) numbers) (at + len
 
 -- ---- refusals of a round
 
--- 15: start and full length together pass the last slot
-unfoldable pub long_refusal : RoundConf → ℕ → ℕ
-long_refusal conf slot = either (nat_lt last_slot (slot + conf.length)) too_long 0
+-- 15: start and full length together do not pass the last slot
+unfoldable pub length_test : RoundConf → ℕ → Tested
+length_test conf slot = holds_or (leb (slot + conf.length) last_slot) TooLong
 
--- 16: some draw of the run found no word. 17: its rows do not fit.
-unfoldable pub late_of : ℕ → ℕ → Bool → ℕ → ℕ
-late_of numbers used short due = either short words_short (either (rows_refused numbers used due) rows_short 0)
-
--- the first of two refusals, and the second only if there is no first
-abbrev pub or_else : ℕ → ℕ → ℕ
-or_else first second = either (first == 0) second first
+-- 16: every draw of the run found a word. 17: its rows fit.
+unfoldable pub late_test : ℕ → ℕ → Bool → ℕ → Tested
+late_test numbers used short due =
+    result_and (holds_or (not short) WordsShort) (holds_or (not (rows_refused numbers used due)) RowsShort)

@@ -2,7 +2,6 @@
 // settings. With `capture`, `flood` and `pipeline` the third of the layers.
 #![tactic(auto)]
 
-pub mod clamp;
 pub mod columns;
 pub mod metrics;
 pub mod network;

@@ -1,6 +1,6 @@
 // RULES 7.1, 7.3, 7.4 and 7.5. What both kinds of room have and both kinds of round move, and what a round goes by.
 ghost use Rattle.std.specs.Prelude.{◌≡◌, length};
-ghost use Rattle.engines.specs.Network.{new_network, ticking, on_air, long_refusal, late_of, due_row, slot_row, written_at, written_end};
+ghost use Rattle.engines.specs.Network.{new_network, ticking, on_air, length_test, late_test, due_row, slot_row, written_at, written_end};
 
 use super::metrics::MetricsCollector;
 use super::node::Node;
@@ -8,7 +8,7 @@ use super::rows::Row;
 use super::settings::Settings;
 use super::{node, rows};
 use graph::network::NetworkGraph;
-use limits::refusals;
+use limits::refusals::Refusal;
 
 // The positions, what is counted beside them, the present slot, the slot of the next row, and the bytes sent.
 #[derive(Clone, Copy)]
@@ -68,31 +68,31 @@ pub fn tick(conf: RoundConf, w: Network) -> Network
 
 // The refusal that is known before a round runs: its full length would pass the last slot. A difference stands for
 // the sum, which could wrap.
-#[tactic(auto, unfolding(crate::specs::Network::long_refusal))]
-pub fn long_refusal(conf: RoundConf, slot: u64) -> u64
-    ensures { result ≡ long_refusal conf slot }
+#[tactic(auto, unfolding(crate::specs::Network::length_test))]
+pub fn check_length(conf: RoundConf, slot: u64) -> Result<(), Refusal>
+    ensures { result ≡ length_test conf slot }
 {
     if limits::LAST_SLOT < conf.length {
-        return refusals::TOO_LONG;
+        return Err(Refusal::TooLong);
     }
     if limits::LAST_SLOT - conf.length < slot {
-        return refusals::TOO_LONG;
+        return Err(Refusal::TooLong);
     }
-    0
+    Ok(())
 }
 
 // Those that only its run tells: words ran short, or its rows do not fit.
-#[tactic(auto, unfolding(crate::specs::Network::late_of))]
-pub fn late_refusal(short: bool, due: u64, numbers: usize, used: usize) -> u64
-    ensures { result ≡ late_of numbers used short due }
+#[tactic(auto, unfolding(crate::specs::Network::late_test))]
+pub fn check_late(short: bool, due: u64, numbers: usize, used: usize) -> Result<(), Refusal>
+    ensures { result ≡ late_test numbers used short due }
 {
     if short {
-        return refusals::WORDS_SHORT;
+        return Err(Refusal::WordsShort);
     }
     if rows::rows_refused(numbers, used, due as usize) {
-        return refusals::ROWS_SHORT;
+        return Err(Refusal::RowsShort);
     }
-    0
+    Ok(())
 }
 
 // ---- rows

@@ -26,7 +26,8 @@ impl From<NodeState> for u64 {
     }
 }
 
-// And the way back: a number above 2 reads as Sleep.
+// And the way back: a number above 2 reads as Sleep. (Two enums more have such a match, in engines_c and packets_c: the
+// variants are all that it has, so that one for all three would be told them.)
 impl From<u64> for NodeState {
     ghost from_gives = { λ n s. s ≡ state_numbered n };
 
@@ -96,7 +97,8 @@ impl Node {
     }
 }
 
-// Each of the first n positions changed by f, which is told its number.
+// Each of the first n positions changed by f, which is told its number. The condition is f's, not the caller's: it may
+// count on a number below 64.
 pub fn change_all<F: Fn(usize, Node) -> Node>(nodes: [Node; 64], n: usize, f: F) -> [Node; 64]
     requires { (i : ℕ) (v : Node) → i < 64 → F.pre f i v }
     ensures { (h : ℕ → Node → Node) → ((i : ℕ) (v w : Node) → F.post f i v w → w ≡ h i v) → result ≡ upto (at_most64 n) (place no_node h) nodes }

@@ -69,7 +69,8 @@ pub fn pick(w: u64, i: usize) -> usize
     (w as usize) % (i + 1)
 }
 
-// One turn of the shuffle: the number at i changes places with one of those from 0 to i.
+// One turn of the shuffle: the number at i changes places with one of those from 0 to i. Its bound is the loop's; a
+// test in its stead would need an answer for what never comes.
 #[tactic(auto, using(crate::proofs::Drawing::pick_le), unfolding(crate::specs::Words::swap_step))]
 fn swap_step(words: &[u64], ids: &mut [usize; 64], i: usize, d: Draw) -> Draw
     requires { i < 64 }

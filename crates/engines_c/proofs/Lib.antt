@@ -1,5 +1,4 @@
 pub mod Filling
 pub mod Storing
 pub mod Stating
-pub mod Refusing
 pub mod Lowest

@@ -1,36 +1,34 @@
 -- A refused call keeps what it was lent, and of several refusals the lowest is told. Assumes nothing.
-use mathlib.Core.Path.{◌≡◌, refl, sym, ap, ◌∙◌}
+use mathlib.Core.Path.{◌≡◌, refl, sym, ◌∙◌}
 use mathlib.Core.Bool.{Bool, true, false, not}
 use mathlib.Core.List.{List}
-use mathlib.Core.Logic.{inl, inr}
 use Prim.Native.Nat.{ℕ, ◌+◌, ◌≤◌, ◌<◌}
-use native.Mathlib.Nat.{eq-zero-or-pos, lt_irrefl}
+use native.Mathlib.Nat.{lt_irrefl}
 use native.Mathlib.Omega.{arith}
 use lib.Dec.{eqb, leb, ltb}
 use lib.ListN.{length, get_or}
-use borrow.Author.Tests.{eq-eqb, ne_eqb, le-leb, lt-leb}
+use borrow.Author.Tests.{eq-eqb, ne_eqb, le-ltb, lt-ltb}
+use Rattle.std.specs.Prelude.{Ok, Err, is_ok}
 use Rattle.limits.specs.Limits.{last_slot}
 use Rattle.limits.specs.Refusals.{bad_positions, bad_links, bad_loss, no_interval, no_position, bad_packet}
 use Rattle.std.specs.Result.{result_and}
-use Rattle.limits.specs.declared.refusals.Refusal.TheVariants.{BadPositions, BadLinks}
-use Rattle.limits.specs.Refusals.{holds_or}
-use Rattle.limits.specs.Refusals.{answer_of as tell}
-use Rattle.limits.specs.Refusals.{too_long, words_short, rows_short}
+use Rattle.limits.specs.declared.refusals.Refusal.{Refusal}
+use Rattle.limits.specs.declared.refusals.Refusal.TheVariants.{BadPositions, BadLinks, TooLong, WordsShort, RowsShort}
+use Rattle.limits.specs.Refusals.{answer_of as tell, number_of, Tested, holds_or, too_long}
+use Rattle.limits.proofs.Tests.{number_some}
 use Rattle.loops.specs.Pick.{either}
 use Rattle.marks.specs.Marks.{all_of}
-use Rattle.graph.specs.Links.{is_size, inside, size_test, all_inside, graph_test, graph_refusal}
-use Rattle.graph.specs.Console.{first}
+use Rattle.graph.specs.Links.{is_size, inside, size_test, all_inside, graph_test}
 use Rattle.graph.specs.declared.network.NetworkGraph.{NetworkGraph}
-use Rattle.graph.proofs.Entries.{first_here, unless_refused}
+use Rattle.graph.proofs.Entries.{unless_refused}
 use Rattle.engines.specs.Settings.{loss_accepted}
-use Rattle.engines.specs.Network.{long_refusal, late_of, or_else}
+use Rattle.engines.specs.Network.{length_test, late_test}
 use Rattle.engines.specs.Rows.{rows_refused}
 use Rattle.engines.specs.declared.network.RoundConf.{RoundConf}
-use Rattle.capture.specs.Capture.{start_of, after_round, refusal_of, answer_of}
+use Rattle.capture.specs.Capture.{start_of, after_round, round_test, CeAnswer, answer_of}
 use Rattle.capture.specs.declared.capture.CeState.{CeState}
-use Rattle.capture.specs.declared.capture.CeAnswer.{CeAnswer}
 use Rattle.engines_c.specs.Payloads.{held_fits}
-use Rattle.engines_c.specs.Console.{lowest_of, asked_of, state_at, told_of, Answered, RefusedKeeps, UpTo, LowestFirst}
+use Rattle.engines_c.specs.Console.{lowest_of, asked_test, state_at, told_of, played_told, Answered, RefusedKeeps, UpTo, LowestFirst}
 
 -- ---- what is kept
 
@@ -45,7 +43,7 @@ refused_keeps xs ws lent conf initiator r after left a h =
 told_by : Bool → Bool → ℕ
 told_by size rows = tell (result_and (holds_or size BadPositions) (holds_or rows BadLinks))
 
-graph_low : (g : NetworkGraph) → graph_refusal g ≤ bad_links
+graph_low : (g : NetworkGraph) → tell (graph_test g) ≤ bad_links
 unfolding graph_test size_test all_inside told_by
 graph_low g = go (is_size g.n) (all_of g.n (λ i. inside g.n (get_or g.adj i 0)))
   where
@@ -54,11 +52,11 @@ graph_low g = go (is_size g.n) (all_of g.n (λ i. inside g.n (get_or g.adj i 0))
     go true false = omega arith
     go false rows = omega arith
 
-graph_size : (g : NetworkGraph) → is_size g.n ≡ false → graph_refusal g ≡ bad_positions
+graph_size : (g : NetworkGraph) → is_size g.n ≡ false → tell (graph_test g) ≡ bad_positions
 unfolding graph_test size_test
 graph_size g h = rw h
 
-graph_rows : (g : NetworkGraph) → all_of g.n (λ i. inside g.n (get_or g.adj i 0)) ≡ false → 0 < graph_refusal g
+graph_rows : (g : NetworkGraph) → all_of g.n (λ i. inside g.n (get_or g.adj i 0)) ≡ false → 0 < tell (graph_test g)
 unfolding graph_test size_test all_inside told_by
 graph_rows g h = rw h (go (is_size g.n))
   where
@@ -68,132 +66,129 @@ graph_rows g h = rw h (go (is_size g.n))
 
 -- ---- a round by 15 or more
 
--- k is no refusal, or one of those
-abbrev High : ℕ → Type 0
-High k = 0 < k → too_long ≤ k
+-- t is no refusal, or one of those
+abbrev High : Tested → Type 0
+High t = 0 < tell t → too_long ≤ tell t
 
-or_high : (x y : ℕ) → High x → High y → High (or_else x y)
-or_high x y h k = go (eqb x 0) refl
-  where
-    go : (b : Bool) → eqb x 0 ≡ b → High (either b y x)
-    go true e = k
-    go false e = h
+both_high : (x y : Tested) → High x → High y → High (result_and x y)
+both_high (Ok u) y h k = k
+both_high (Err r) y h k = h
 
-long_high : (conf : RoundConf) (slot : ℕ) → High (long_refusal conf slot)
-unfolding long_refusal
-long_high conf slot = go (ltb last_slot (slot + conf.length))
-  where
-    go : (b : Bool) → High (either b too_long 0)
-    go true h = omega arith
-    go false h = absurd (lt_irrefl 0 h)
+test_high : (b : Bool) (r : Refusal) → too_long ≤ number_of r → High (holds_or b r)
+test_high true r h z = absurd (lt_irrefl 0 z)
+test_high false r h z = h
 
-late_high : (numbers used : ℕ) (short : Bool) (due : ℕ) → High (late_of numbers used short due)
-unfolding late_of
-late_high numbers used short due = go short (rows_refused numbers used due)
-  where
-    go : (a b : Bool) → High (either a words_short (either b rows_short 0))
-    go true b h = omega arith
-    go false true h = omega arith
-    go false false h = absurd (lt_irrefl 0 h)
+long_high : (conf : RoundConf) (slot : ℕ) → High (length_test conf slot)
+unfolding length_test
+long_high conf slot = test_high (leb (slot + conf.length) last_slot) TooLong (omega arith)
 
-round_high : (ws : List ℕ) (numbers used : ℕ) (conf : RoundConf) (s : CeState) → High (refusal_of ws numbers used conf s)
-unfolding refusal_of
+late_high : (numbers used : ℕ) (short : Bool) (due : ℕ) → High (late_test numbers used short due)
+unfolding late_test
+late_high numbers used short due =
+    both_high (holds_or (not short) WordsShort) (holds_or (not (rows_refused numbers used due)) RowsShort)
+    (test_high (not short) WordsShort (omega arith)) (test_high (not (rows_refused numbers used due)) RowsShort (omega arith))
+
+round_high : (ws : List ℕ) (numbers used : ℕ) (conf : RoundConf) (s : CeState) → High (round_test ws numbers used conf s)
+unfolding round_test
 round_high ws numbers used conf s =
-    or_high _ _ (long_high conf s.network.slot) (late_high numbers used (after_round ws conf s).draw.short _)
+    both_high _ _ (long_high conf s.network.slot) (late_high numbers used (after_round ws conf s).draw.short _)
 
 told_high : (xs ws : List ℕ) (numbers : ℕ) (conf : RoundConf) (initiator : ℕ)
-    → High (told_of xs ws numbers conf initiator).refusal
+    → High (told_of xs ws numbers conf initiator).told
 unfolding told_of answer_of
 told_high xs ws numbers conf initiator =
     let s = start_of conf initiator (get_or xs 4 0) (state_at xs) in
-    pick (eqb (refusal_of ws numbers (get_or xs 3 0) conf s) 0) _ _ (λ h. absurd (lt_irrefl 0 h))
+    pick (is_ok (round_test ws numbers (get_or xs 3 0) conf s)) _ _ (λ h. absurd (lt_irrefl 0 h))
     (round_high ws numbers (get_or xs 3 0) conf s)
   where
-    pick : (b : Bool) (x y : CeAnswer) → High x.refusal → High y.refusal → High (either b x y).refusal
+    pick : (b : Bool) (x y : CeAnswer) → High x.told → High y.told → High (either b x y).told
     pick true x y h k = h
     pick false x y h k = k
 
 -- ---- all of them
 
--- g is what the links are refused by, a to d say whether 4, 6, 8 and 9 hold, t is the refusal of the round
-links_first : (g : ℕ) (a b c d : Bool) (t : ℕ) → 0 < g → first (lowest_of g a b c d) t ≡ g
+-- g is what the test of the links tells, a to d say whether those of 4, 6, 8 and 9 say yes, t is what the round tells
+abbrev told : Tested → Bool → Bool → Bool → Bool → Tested → ℕ
+told g a b c d t = tell (result_and (lowest_of g a b c d) t)
+
+links_first : (g : Tested) (a b c d : Bool) (t : Tested) → 0 < tell g → told g a b c d t ≡ tell g
 unfolding lowest_of
-links_first g a b c d t h =
-    let n : g ≡ 0 → ⊥ = λ z. omega arith in
-    ap (λ (k : ℕ). first k t) (sym (first_here g _ n)) ∙ sym (first_here g t n)
+links_first (Ok u) a b c d t h = absurd (lt_irrefl 0 h)
+links_first (Err r) a b c d t h = refl
 
 -- It is enough to look at calls whose links are not refused.
-else_rest : (g : ℕ) (a b c d : Bool) (t k : ℕ) → g ≤ bad_links → bad_links ≤ k → UpTo k (first (lowest_of 0 a b c d) t)
-    → UpTo k (first (lowest_of g a b c d) t)
-else_rest g a b c d t k low high u =
-    elim (eq-zero-or-pos g) [ inl z ↦ rw z u | inr p ↦ rw (links_first g a b c d t p) (p, omega arith) ]
+else_rest : (g : Tested) (a b c d : Bool) (t : Tested) (k : ℕ) → tell g ≤ bad_links → bad_links ≤ k → UpTo k (told (Ok tt) a b c d t)
+    → UpTo k (told g a b c d t)
+unfolding lowest_of
+else_rest (Ok u) a b c d t k low high e = e
+else_rest (Err r) a b c d t k low high e = (number_some r, omega arith)
 
-loss_told : (b c d : Bool) (t : ℕ) → UpTo bad_loss (first (lowest_of 0 true b c d) t)
-unfolding lowest_of first
+loss_told : (b c d : Bool) (t : Tested) → UpTo bad_loss (told (Ok tt) false b c d t)
+unfolding lowest_of
 loss_told b c d t = (omega arith, omega arith)
 
-interval_told : (a c d : Bool) (t : ℕ) → UpTo no_interval (first (lowest_of 0 a true c d) t)
-unfolding lowest_of first
-interval_told true c d t = (omega arith, omega arith)
+interval_told : (a c d : Bool) (t : Tested) → UpTo no_interval (told (Ok tt) a false c d t)
+unfolding lowest_of
 interval_told false c d t = (omega arith, omega arith)
+interval_told true c d t = (omega arith, omega arith)
 
-position_told : (a b d : Bool) (t : ℕ) → UpTo no_position (first (lowest_of 0 a b true d) t)
-unfolding lowest_of first
-position_told true b d t = (omega arith, omega arith)
-position_told false true d t = (omega arith, omega arith)
-position_told false false d t = (omega arith, omega arith)
+position_told : (a b d : Bool) (t : Tested) → UpTo no_position (told (Ok tt) a b false d t)
+unfolding lowest_of
+position_told false b d t = (omega arith, omega arith)
+position_told true false d t = (omega arith, omega arith)
+position_told true true d t = (omega arith, omega arith)
 
-held_told : (a b c : Bool) (t : ℕ) → UpTo bad_packet (first (lowest_of 0 a b c true) t)
-unfolding lowest_of first
-held_told true b c t = (omega arith, omega arith)
-held_told false true c t = (omega arith, omega arith)
-held_told false false true t = (omega arith, omega arith)
-held_told false false false t = (omega arith, omega arith)
+held_told : (a b c : Bool) (t : Tested) → UpTo bad_packet (told (Ok tt) a b c false t)
+unfolding lowest_of
+held_told false b c t = (omega arith, omega arith)
+held_told true false c t = (omega arith, omega arith)
+held_told true true false t = (omega arith, omega arith)
+held_told true true true t = (omega arith, omega arith)
 
-round_told : (a b c d : Bool) (t : ℕ) → 0 < t → too_long ≤ t → UpTo t (first (lowest_of 0 a b c d) t)
-unfolding lowest_of first
-round_told true b c d t h k = (omega arith, omega arith)
-round_told false true c d t h k = (omega arith, omega arith)
-round_told false false true d t h k = (omega arith, omega arith)
-round_told false false false true t h k = (omega arith, omega arith)
-round_told false false false false t h k = (h, omega arith)
+round_told : (a b c d : Bool) (t : Tested) → 0 < tell t → too_long ≤ tell t → UpTo (tell t) (told (Ok tt) a b c d t)
+unfolding lowest_of
+round_told false b c d t h k = (omega arith, omega arith)
+round_told true false c d t h k = (omega arith, omega arith)
+round_told true true false d t h k = (omega arith, omega arith)
+round_told true true true false t h k = (omega arith, omega arith)
+round_told true true true true t h k = (h, omega arith)
 
 module _ (xs ws : List ℕ) (numbers : ℕ) (conf : RoundConf) (initiator : ℕ) where
-  abbrev g : ℕ
-  g = graph_refusal conf.graph
+  abbrev g : Tested
+  g = graph_test conf.graph
 
   abbrev a : Bool
-  a = not (loss_accepted conf.settings.loss_rate)
+  a = loss_accepted conf.settings.loss_rate
 
   abbrev b : Bool
-  b = eqb conf.interval 0
+  b = not (eqb conf.interval 0)
 
   abbrev c : Bool
-  c = leb conf.graph.n initiator
+  c = ltb initiator conf.graph.n
 
   abbrev d : Bool
-  d = not (held_fits xs 528 conf.graph.n)
+  d = held_fits xs 528 conf.graph.n
 
-  abbrev t : ℕ
-  t = (told_of xs ws numbers conf initiator).refusal
+  abbrev t : Tested
+  t = (told_of xs ws numbers conf initiator).told
 
-  behind : (k : ℕ) → bad_links ≤ k → UpTo k (first (lowest_of 0 a b c d) t) → UpTo k (first (lowest_of g a b c d) t)
+  behind : (k : ℕ) → bad_links ≤ k → UpTo k (told (Ok tt) a b c d t) → UpTo k (told g a b c d t)
   behind k h u = else_rest g a b c d t k (graph_low conf.graph) h u
 
-  none_told : g ≡ 0 → loss_accepted conf.settings.loss_rate ≡ true → (conf.interval ≡ 0 → ⊥)
+  none_told : g ≡ Ok tt → loss_accepted conf.settings.loss_rate ≡ true → (conf.interval ≡ 0 → ⊥)
       → initiator < conf.graph.n → held_fits xs 528 conf.graph.n ≡ true
-      → first (asked_of conf initiator xs) t ≡ t
-  unfolding asked_of lowest_of first
+      → tell (played_told xs ws numbers conf initiator) ≡ tell t
+  unfolding asked_test lowest_of
   none_told h1 h2 h3 h4 h5 =
-      rw (h1, h2, ne_eqb conf.interval 0 h3, lt-leb conf.graph.n initiator h4, h5)
+      rw (h1, h2, ne_eqb conf.interval 0 h3, lt-ltb initiator conf.graph.n h4, h5)
 
-  lowest_of_all : LowestFirst xs ws numbers conf initiator (first (asked_of conf initiator xs) t)
-  unfolding asked_of
+  lowest_of_all : LowestFirst xs ws numbers conf initiator (tell (played_told xs ws numbers conf initiator))
+  unfolding asked_test
   lowest_of_all =
       record {
         positions =
             λ h.
-            rw (graph_size conf.graph h, links_first bad_positions a b c d t (omega arith))
+            rw (links_first g a b c d t (rw (graph_size conf.graph h) (omega arith)), graph_size conf.graph h)
             (omega arith, omega arith);
         links =
             λ h.
@@ -203,12 +198,12 @@ module _ (xs ws : List ℕ) (numbers : ℕ) (conf : RoundConf) (initiator : ℕ)
         interval = λ h. behind no_interval (omega arith) (rw (eq-eqb conf.interval 0 h) (interval_told a c d t));
         position =
             λ h.
-            behind no_position (omega arith) (rw (le-leb conf.graph.n initiator h) (position_told a b d t));
+            behind no_position (omega arith) (rw (le-ltb initiator conf.graph.n h) (position_told a b d t));
         held = λ h. behind bad_packet (omega arith) (rw h (held_told a b c t));
         round =
             λ h.
             let k = told_high xs ws numbers conf initiator h in
-            behind t (omega arith) (round_told a b c d t h k);
+            behind (tell t) (omega arith) (round_told a b c d t h k);
         otherwise = none_told;
       }
 

@@ -1,17 +1,19 @@
 // RULES 17. The entry for the differential runs: a capture round on a state that is a lent list of numbers. The answer
 // is the refusal, 0 for none; a refused call writes nothing.
 ghost use Rattle.std.specs.Prelude.{◌≡◌};
-ghost use Rattle.graph.specs.Links.{graph_refusal};
-ghost use Rattle.engines_c.specs.Console.{asked_of, links_of, conf_of, state_at, counters, put_state, Answered};
+ghost use Rattle.limits.specs.Refusals.{answer_of};
+ghost use Rattle.engines_c.specs.Console.{asked_test, links_of, conf_of, state_at, put_state, Answered};
 
 use super::{numbers, payloads};
-use capture::capture::{CeAnswer, CeState};
+use capture::capture as engine;
+use capture::capture::CeState;
 use engines::network::RoundConf;
 use engines::settings;
 use engines::settings::Settings;
 use engines::words::Draw;
 use graph::network::NetworkGraph;
 use limits::refusals;
+use limits::refusals::Refusal;
 
 // A row of links for each position; missing ones are empty.
 fn links_of(links: &[u64]) -> [u64; limits::POSITIONS]
@@ -53,34 +55,25 @@ fn conf_of(
     }
 }
 
-// 2 and 3 of the links, by their numbers.
-fn links_refusal(graph: &NetworkGraph) -> u64
-    ensures { result ≡ graph_refusal graph.now }
+// Why a call is refused before its round is run, the lowest number first.
+#[tactic(auto, unfolding(crate::specs::Console::asked_test, crate::specs::Console::lowest_of))]
+fn check(xs: &[u64], conf: RoundConf, initiator: usize) -> Result<(), Refusal>
+    ensures { result ≡ asked_test conf initiator xs.now }
 {
-    refusals::answer(graph.check())
-}
-
-// The refusal of a call before its round is run, the lowest first.
-fn asked(xs: &[u64], conf: RoundConf, initiator: usize) -> u64
-    ensures { result ≡ asked_of conf initiator xs.now }
-{
-    let links = links_refusal(&conf.graph);
-    if links != 0 {
-        return links;
-    }
+    conf.graph.check()?;
     if !settings::loss_accepted(conf.settings.loss_rate) {
-        return refusals::BAD_LOSS;
+        return Err(Refusal::BadLoss);
     }
     if conf.interval == 0 {
-        return refusals::NO_INTERVAL;
+        return Err(Refusal::NoInterval);
     }
     if conf.graph.n <= initiator {
-        return refusals::NO_POSITION;
+        return Err(Refusal::NoPosition);
     }
     if !payloads::held_fits(xs, 528, conf.graph.n) {
-        return refusals::BAD_PACKET;
+        return Err(Refusal::BadPacket);
     }
-    0
+    Ok(())
 }
 
 #[tactic(auto, unfolding(crate::specs::Console::state_at))]
@@ -98,20 +91,32 @@ fn state_of(xs: &[u64]) -> CeState
     }
 }
 
-// The numbers from 3 on, behind those of the network.
-fn counters_of(a: CeAnswer) -> [u64; 3]
-    ensures { result ≡ counters a }
+fn put_state(xs: &mut [u64], c: CeState, used: usize)
+    ensures { xs.new ≡ put_state c used xs.old }
 {
-    [a.used as u64, a.state.draw.at as u64, a.state.ended as u64]
+    let values = [used as u64, c.draw.at as u64, c.ended as u64];
+    numbers::put_run(xs, 3, 0, &values);
+    numbers::put_network(xs, 2, 8, 16, c.network);
+    payloads::put_held(xs, 528, c.held);
 }
 
-fn put_state(xs: &mut [u64], a: CeAnswer)
-    ensures { xs.new ≡ put_state a xs.old }
+// The round that the numbers of a state ask for.
+fn play(
+    state: &mut [u64],
+    words: &[u64],
+    rows: &mut [u64],
+    conf: RoundConf,
+    initiator: usize,
+) -> Result<(), Refusal>
+    ensures { Answered state.old words.now rows.old conf initiator (answer_of result) state.new rows.new }
 {
-    let values = counters_of(a);
-    numbers::put_run(xs, 3, 0, &values);
-    numbers::put_network(xs, 2, 8, 16, a.state.network);
-    payloads::put_held(xs, 528, a.state.held);
+    check(state, conf, initiator)?;
+    let mut c = state_of(state);
+    let mut used = numbers::number(state, 3) as usize;
+    let cursor = numbers::number(state, 4) as usize;
+    engine::run_ce_round(words, rows, &mut used, conf, &mut c, initiator, cursor)?;
+    put_state(state, c, used);
+    Ok(())
 }
 
 // One round of at most `slots` slots. The state: slot, next row slot, bytes sent, rows used, cursor, whether the goal
@@ -146,18 +151,5 @@ pub extern "C" fn ce_round(
         interval,
         slots,
     );
-    let refusal = asked(state, conf, initiator);
-    if refusal != 0 {
-        return refusal;
-    }
-    let c = state_of(state);
-    let used = numbers::number(state, 3) as usize;
-    let cursor = numbers::number(state, 4) as usize;
-    let a = capture::capture::run_ce_round(words, rows, used, conf, c, initiator, cursor);
-    let refusal2 = a.refusal;
-    if refusal2 != 0 {
-        return refusal2;
-    }
-    put_state(state, a);
-    0
+    refusals::answer(play(state, words, rows, conf, initiator))
 }

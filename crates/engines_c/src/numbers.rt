@@ -10,13 +10,15 @@ use engines::metrics::MetricsCollector;
 use engines::network::Network;
 use engines::node::{Node, NodeState};
 
+// `get` with 0 behind the end, by a name: fifty places read a list so.
 pub fn number(xs: &[u64], i: usize) -> u64
     ensures { result ≡ get_or xs.now i 0 }
 {
     xs.get(i).copied().unwrap_or(0)
 }
 
-pub fn put(xs: &mut [u64], i: usize, v: u64)
+// Of numbers and of floats.
+pub fn put<T: Copy>(xs: &mut [T], i: usize, v: T)
     ensures { xs.new ≡ set xs.old i v }
 {
     if i < xs.len() {

@@ -1,5 +1,6 @@
 -- What the proofs of the flood lean on. Assumes nothing.
-use Rattle.std.proofs.Common.{◌≡◌, ℕ, zero, suc, ◌+◌, ◌*◌, ◌/◌, ◌^◌, ◌<◌, ◌≤◌, Bool, true, false, List, [], length, sym, refl, ap, ◌∙◌, true≢false, mul-le-mul, arith, length-append}
+use Rattle.std.proofs.Common.{◌≡◌, ℕ, zero, suc, ◌+◌, ◌*◌, ◌/◌, ◌^◌, ◌<◌, ◌≤◌, Bool, true, false, not, cond, Option, Some, None, List, [], length, sym, refl, ap, ◌∙◌, true≢false, mul-le-mul, arith, length-append}
+use Rattle.std.proofs.lemmas.Option.{none-some, cond_some}
 use Rattle.loops.specs.Pick.{either}
 use Rattle.loops.specs.Runs.{tell}
 use Rattle.engines.specs.Network.{due_row, slot_row}
@@ -11,7 +12,7 @@ use Rattle.engines.specs.Rounds.{rows_in, Surveyed}
 use Rattle.engines.specs.declared.network.RoundConf.{RoundConf}
 use Rattle.flood.specs.Flood.{flood_slot, is_over, flood_round, flood_rows, flooded_of}
 use Rattle.flood.specs.declared.flood.FloodRun.{FloodRun}
-use Rattle.flood.specs.declared.flood.Flooded.{Flooded}
+use Rattle.flood.specs.declared.flood.FloodSurvey.{FloodSurvey}
 
 -- a length fits
 pub length_fits : (d k : ℕ) → d ≤ 64 → k < 2 ^ 32 → (d + 2) * k < 2 ^ 64
@@ -20,18 +21,18 @@ length_fits d k h g = let p : (d + 2) * k ≤ 66 * 4294967296 = mul-le-mul {n₂
 -- what the run without rows found out is what the flood tells
 module _ (ws : List ℕ) (conf : RoundConf) (bytes : ℕ) (f : FloodRun) {t : FloodRun} {due : ℕ}
     (s : Surveyed (λ (r : FloodRun). r.network) is_over (flood_slot ws conf bytes) conf (λ r. r.draw) conf.length f t due) where
-  pub flooded_short : t.draw.short ≡ true → record { short = true; due = 0; run = f } ≡ flooded_of ws conf bytes f
+  pub flooded_short : t.draw.short ≡ true → None ≡ flooded_of ws conf bytes f
   unfolding flooded_of flood_round
   flooded_short e = rw (sym s.short ∙ e)
 
-  pub flooded_whole : t.draw.short ≡ false → record { short = false; due = due; run = t } ≡ flooded_of ws conf bytes f
+  pub flooded_whole : t.draw.short ≡ false → Some (record { run = t; due = due }) ≡ flooded_of ws conf bytes f
   unfolding flooded_of flood_round flood_rows
   flooded_whole e =
       let d : length (rows_in (λ (r : FloodRun). r.network) is_over (flood_slot ws conf bytes) conf conf.length f) / 5 ≡ due = omega (arith, s.rows e) in
-      picked (flood_round ws conf bytes f).draw.short _ _ (sym s.short ∙ e) (rw (d, s.state e))
+      picked (flood_round ws conf bytes f).draw.short (sym s.short ∙ e) (rw (d, s.state e))
     where
-      picked : (b : Bool) (x y : Flooded) {r : Flooded} → b ≡ false → r ≡ y → r ≡ either b x y
-      picked b x y h g = rw h g
+      picked : (b : Bool) {r y : Option FloodSurvey} → b ≡ false → r ≡ y → r ≡ cond (not b) y None
+      picked b h g = rw h g
 
 -- ---- what a caller makes of it
 
@@ -56,23 +57,34 @@ module _ (conf : RoundConf) where
   tell_five slot (suc k) false f =
       both_five _ _ _ (row_five f.network) (tell_five slot k (slot f).over (slot f)) (length-append (slot_row conf f.network) _)
 
-module _ (ws : List ℕ) (conf : RoundConf) (bytes : ℕ) (f : FloodRun) {r : Flooded} (v : r ≡ flooded_of ws conf bytes f) where
-  tells : (b : Bool) (x y : Flooded) → x.short ≡ true → y.short ≡ false → r ≡ either b x y → (r.short ≡ b) × (r.short ≡ false → r ≡ y)
-  tells true x y s t e =
-      let q : r.short ≡ true = ap (λ (z : Flooded). z.short) e ∙ s in
-      (q, λ n. absurd (true≢false (sym q ∙ n)))
-  tells false x y s t e = (ap (λ (z : Flooded). z.short) e ∙ t, λ n. e)
+module _ (ws : List ℕ) (conf : RoundConf) (bytes : ℕ) (f : FloodRun) where
+  abbrev short : Bool
+  short = (flood_round ws conf bytes f).draw.short
 
-  pub told_short : r.short ≡ (flood_round ws conf bytes f).draw.short
-  unfolding flooded_of
-  told_short = (tells (flood_round ws conf bytes f).draw.short _ _ refl refl v).0
+  -- words were enough, and this is the round
+  pub record Told (x : FloodSurvey) : Type 0 where
+    pub enough : short ≡ false
+    pub run : x.run ≡ flood_round ws conf bytes f
+    pub due : x.due * 5 ≡ length (flood_rows ws conf bytes f)
 
-  pub told_run : r.short ≡ false → r.run ≡ flood_round ws conf bytes f
-  unfolding flooded_of
-  told_run n = ap (λ (z : Flooded). z.run) ((tells (flood_round ws conf bytes f).draw.short _ _ refl refl v).1 n)
-
-  pub told_due : r.short ≡ false → r.due * 5 ≡ length (flood_rows ws conf bytes f)
+  pub told_whole : {x : FloodSurvey} → Some x ≡ flooded_of ws conf bytes f → Told x
   unfolding flooded_of flood_rows
-  told_due n =
-      ap (λ (z : Flooded). z.due * 5) ((tells (flood_round ws conf bytes f).draw.short _ _ refl refl v).1 n)
-      ∙ tell_five conf (flood_slot ws conf bytes) conf.length f.over f
+  told_whole {x} v =
+      let e = cond_some (not short) _ x (sym v) in
+      record {
+        enough = not-true short e.0;
+        run = ap (λ (z : FloodSurvey). z.run) (sym e.1);
+        due = ap (λ (z : FloodSurvey). z.due * 5) (sym e.1) ∙ tell_five conf (flood_slot ws conf bytes) conf.length f.over f;
+      }
+    where
+      not-true : (b : Bool) → not b ≡ true → b ≡ false
+      not-true false e = refl
+      not-true true e = absurd (true≢false (sym e))
+
+  pub told_short : None ≡ flooded_of ws conf bytes f → short ≡ true
+  unfolding flooded_of
+  told_short v = by short _ v
+    where
+      by : (b : Bool) (x : FloodSurvey) → None ≡ cond (not b) (Some x) None → b ≡ true
+      by true x e = refl
+      by false x e = absurd (none-some x e)

@@ -1,6 +1,6 @@
 -- RULES 9, the flood: one packet, sent on by whoever hears it. A link from
 -- i to j says that j hears i: row i of the links has mark j. Assumes nothing.
-use Rattle.std.specs.Prelude.{ℕ, ◌+◌, ◌-◌, ◌*◌, ◌/◌, max, Bool, true, false, ◌&&◌, List, length, ◌==◌, from_bits, nat_le, nat_lt, slice_index, slice_index_or, slice_set, Float}
+use Rattle.std.specs.Prelude.{ℕ, ◌+◌, ◌-◌, ◌*◌, ◌/◌, max, Bool, true, false, not, cond, ◌&&◌, Option, None, Some, List, length, ◌==◌, from_bits, nat_le, nat_lt, slice_index, slice_index_or, slice_set, Float}
 use Rattle.std.specs.Float.{binary64}
 use Rattle.std.specs.Float.Ieee.{eq}
 use Rattle.loops.specs.Pick.{either}
@@ -23,7 +23,7 @@ use Rattle.engines.specs.declared.node.Node.{Node}
 use Rattle.engines.specs.declared.node.NodeState.{NodeState}
 use Rattle.engines.specs.declared.node.NodeState.TheVariants.{Listen, Flood, Sleep}
 use Rattle.engines.specs.declared.node.StateSets.{StateSets}
-use Rattle.flood.specs.declared.flood.Flooded.{Flooded}
+use Rattle.flood.specs.declared.flood.FloodSurvey.{FloodSurvey}
 use Rattle.flood.specs.declared.flood.FloodPlan.{FloodPlan}
 use Rattle.flood.specs.declared.flood.FloodRun.{FloodRun}
 
@@ -164,9 +164,9 @@ flood_round ws conf bytes f = runs is_over (flood_slot ws conf bytes) conf.lengt
 unfoldable pub flood_rows : List ℕ → RoundConf → ℕ → FloodRun → List ℕ
 flood_rows ws conf bytes f = rows_in (λ g. g.network) is_over (flood_slot ws conf bytes) conf conf.length f
 
--- What a flood tells: whether words ran short and, if they did not, how many rows are due and how it ended.
-unfoldable pub flooded_of : List ℕ → RoundConf → ℕ → FloodRun → Flooded
+-- What a flood tells, unless words ran short: how many rows are due and how it ended.
+unfoldable pub flooded_of : List ℕ → RoundConf → ℕ → FloodRun → Option FloodSurvey
 flooded_of ws conf bytes f =
-    either (flood_round ws conf bytes f).draw.short
-    (record { short = true; due = 0; run = f })
-    (record { short = false; due = length (flood_rows ws conf bytes f) / row_cells; run = flood_round ws conf bytes f })
+    cond (not (flood_round ws conf bytes f).draw.short)
+    (Some (record { run = flood_round ws conf bytes f; due = length (flood_rows ws conf bytes f) / row_cells }))
+    None

@@ -21,7 +21,8 @@ pub struct FloodPlan {
     pub success: u64,
 }
 
-// A round between two slots: the network, the cursor, and whether nobody will flood.
+// A round between two slots: the network, the cursor, and whether nobody will flood. That is no Option of a run: where
+// a run has come to is read when it is over.
 #[derive(Clone, Copy)]
 pub struct FloodRun {
     pub network: Network,
@@ -29,12 +30,11 @@ pub struct FloodRun {
     pub over: bool,
 }
 
-// What a flood tells: whether words ran short and, if they did not, how many rows are due and how it ended.
+// A flood run to its end, or to the first word that it lacks, and the rows due by then.
 #[derive(Clone, Copy)]
-pub struct Flooded {
-    pub short: bool,
-    pub due: u64,
+pub struct FloodSurvey {
     pub run: FloodRun,
+    pub due: u64,
 }
 
 // How many slots a round may take. A diameter lies below 64, and a longer one is taken for 64: so the product cannot
@@ -101,6 +101,7 @@ fn send(words: &[u64], loss: f64, hearers: u64, p: FloodPlan) -> FloodPlan
     q
 }
 
+// Flooder i is below 64, as its loop has it. Links and loss are passed as the graph and the settings hold them.
 #[tactic(auto, unfolding(crate::specs::Flood::send_at))]
 fn send_at(
     words: &[u64],
@@ -176,7 +177,7 @@ fn turn(v: Node, heard: bool, repeats: u32) -> Node
     }
 }
 
-// The next states of the first n positions.
+// The next states of the first n positions. (Here and below 64 places and n: see engines src/node.rt.)
 fn turn_all(at: [Node; 64], n: usize, received: u64, repeats: u32) -> [Node; 64]
     ensures { result ≡ turned_all n repeats received at }
 {
@@ -224,13 +225,6 @@ pub(crate) fn flood_slot(words: &[u64], conf: RoundConf, bytes: u64, f: FloodRun
     }
 }
 
-// Where a run without rows has come to, and the rows due by then.
-#[derive(Clone, Copy)]
-pub(crate) struct FloodSurvey {
-    pub run: FloodRun,
-    pub due: u64,
-}
-
 // The slots of a round, without its rows. Once words have run short the rest is not run: there may be four billion
 // slots, and a lack stays noted.
 fn survey(words: &[u64], conf: RoundConf, bytes: u64, f: FloodRun) -> FloodSurvey
@@ -255,24 +249,20 @@ fn survey(words: &[u64], conf: RoundConf, bytes: u64, f: FloodRun) -> FloodSurve
     FloodSurvey { run, due }
 }
 
-// A round without its rows. If words ran short nothing is told of where it had come to.
-pub fn flood_identical_round(words: &[u64], conf: RoundConf, bytes: u64, f: FloodRun) -> Flooded
+// A round without its rows; none if words ran short.
+pub fn flood_identical_round(
+    words: &[u64],
+    conf: RoundConf,
+    bytes: u64,
+    f: FloodRun,
+) -> Option<FloodSurvey>
     ensures { result ≡ flooded_of words.now conf bytes f }
 {
     let s = survey(words, conf, bytes, f);
-    let run = s.run;
-    if run.draw.short {
-        return Flooded {
-            short: true,
-            due: 0,
-            run: f,
-        };
+    if s.run.draw.short {
+        return None;
     }
-    Flooded {
-        short: false,
-        due: s.due,
-        run,
-    }
+    Some(s)
 }
 
 fn reset_all(at: [Node; 64], n: usize) -> [Node; 64]

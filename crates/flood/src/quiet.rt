@@ -36,7 +36,8 @@ fn quiet_for(v: Node, row: u64, listening: u64, most: u64) -> u64
     }
 }
 
-// The same of the first n positions; the first that has none ends the search.
+// The same of the first n positions; the first that has none ends the search. (64 places and n: see engines
+// src/node.rt.)
 fn quiet_for_all(at: [Node; 64], n: usize, links: &[u64; 64], listening: u64, most: u64) -> u64
     ensures { QuietOf links.now n listening most at result }
 {

@@ -4,27 +4,28 @@ use mathlib.Core.Path.{◌≡◌, refl, sym, subst, ◌∙◌}
 use mathlib.Core.Bool.{Bool, true, false}
 use Prim.Native.Nat.{ℕ, zero, suc, ◌+◌, ◌%◌}
 use native.Mathlib.Omega.{arith}
-use lib.Dec.{eqb}
 use lib.ListN.{replicate}
-use borrow.Author.Tests.{eq-eqb}
 use Rattle.std.specs.Prelude.{Result, Ok, Err}
+use Rattle.std.specs.Result.{result_and}
+use Rattle.limits.specs.Refusals.{Tested}
 use Rattle.limits.specs.declared.refusals.Refusal.{Refusal}
 use Rattle.limits.specs.Limits.{row_cells}
 use Rattle.loops.specs.Pick.{either}
 use Rattle.loops.specs.Upto.{upto}
 use Rattle.loops.specs.Runs.{go}
-use Rattle.merges.proofs.Safety.{either_cases}
 use Rattle.graph.specs.declared.network.NetworkGraph.{NetworkGraph}
-use Rattle.pipeline.specs.declared.pipeline.PipelineAnswer.{PipelineAnswer}
+use Rattle.pipeline.specs.declared.pipeline.PipelinePart.{PipelinePart}
+use Rattle.pipeline.specs.Round.{new_part}
 use Rattle.room.specs.Capturing.{propose_part, capture_part}
 use Rattle.room.specs.Pipelining.{pipeline_part}
 use Rattle.room.specs.Kinds.{positions_of}
-use Rattle.room.specs.Rooms.{open_refusal, conf_of, new_room, open_of, with_capture, with_pipeline, propose_of, capture_of, pipeline_of}
+use Rattle.room.specs.Rooms.{conf_of, new_room, opened_by, with_capture, with_pipeline, propose_of, capture_of, pipeline_of}
 use Rattle.room.specs.declared.room.Room.{Room}
-use Rattle.room.specs.declared.capture_calls.Captured.{Captured}
+use Rattle.room.specs.declared.capture_calls.CapturePart.{CapturePart}
+use Rattle.frame.specs.declared.play.Playing.{Playing}
 use Rattle.demand.specs.Calls.{Propose, CaptureRound, PipelineRound, handed, ByCalls}
 use Rattle.demand.proofs.Listing.{no_calls, one_call_more}
-use Rattle.frame.specs.Play.{asked_of, unless_refused, proposing, capturing, capture_turn, play_capture, pipeline_turn, pipeline_turns, is_done, new_ran}
+use Rattle.frame.specs.Play.{asked_of, unless_refused, proposing, capturing, capture_turn, play_capture, pipeline_turn, pipeline_turns, is_done, new_play}
 use Rattle.frame.specs.Calls.{LeadsTo, Leads, PlayedByCalls}
 use Rattle.room.specs.declared.room.RoomConf.{RoomConf}
 use Rattle.frame.specs.declared.line.Frame.{Frame}
@@ -35,6 +36,11 @@ module _ {S : Type 0} (r : Room) (made : S → Room) (turn : ℕ → S → Resul
   abbrev Made : Result S Refusal → Type 0
   Made (Ok s) = ByCalls r (made s)
   Made (Err k) = Unit {0}
+
+  -- a turn that one test may refuse
+  made_if : (t : Tested) (s : S) → Made (Ok s) → Made (result_and t (Ok s))
+  made_if (Ok x) s b = b
+  made_if (Err k) s b = tt
 
   module _ (left : ℕ → Result S Refusal) where
     abbrev To : ℕ → Result S Refusal → Type 0
@@ -60,53 +66,51 @@ module _ {S : Type 0} (r : Room) (made : S → Room) (turn : ℕ → S → Resul
 -- ---- a capture room
 
 module _ (r : Room) (ws : List ℕ) where
-  abbrev capture_room : Captured → Room
+  abbrev capture_room : Playing CapturePart → Room
   capture_room s = with_capture r s.network s.part
 
-  abbrev With : Result Captured Refusal → Type 0
+  abbrev With : Result (Playing CapturePart) Refusal → Type 0
   With q = Made r capture_room (λ k s. capture_turn ws r.conf k s) q
 
-  proposed : (v : ℕ) (s : Captured) → With (Ok s) → With (proposing r.conf v s)
+  proposed : (v : ℕ) (s : Playing CapturePart) → With (Ok s) → With (proposing r.conf v s)
   unfolding proposing handed propose_of
-  proposed v s b = either_cases With (eqb (propose_part r.conf s.part v).refusal 0) (λ e. one_call_more (Propose v) b) (λ e. tt)
+  proposed v s b = made_if r capture_room (λ k s. capture_turn ws r.conf k s) (propose_part r.conf s.part v).told _ (one_call_more (Propose v) b)
 
-  captured : (s : Captured) → With (Ok s) → With (capturing ws r.conf s)
+  captured : (s : Playing CapturePart) → With (Ok s) → With (capturing ws r.conf s)
   unfolding capturing handed capture_of
   captured s b =
-      either_cases With (eqb (capture_part ws row_cells s.used r.conf s.network s.part s.cursor).refusal 0)
-      (λ e. one_call_more (CaptureRound ws s.cursor (replicate 5 0) s.used) b)
-      (λ e. tt)
+      made_if r capture_room (λ k s. capture_turn ws r.conf k s) (capture_part ws row_cells s.used r.conf s.network s.part s.cursor).told _
+      (one_call_more (CaptureRound ws s.cursor (replicate 5 0) s.used) b)
 
-  both : (k : ℕ) (s : Captured) → With (Ok s) → With (capture_turn ws r.conf k s)
+  both : (k : ℕ) (s : Playing CapturePart) → With (Ok s) → With (capture_turn ws r.conf k s)
   unfolding capture_turn
   both k s b = by (proposing r.conf (k % positions_of r.conf) s) (proposed (k % positions_of r.conf) s b)
     where
-      by : (q : Result Captured Refusal) → With q → With (unless_refused (capturing ws r.conf) q)
+      by : (q : Result (Playing CapturePart) Refusal) → With q → With (unless_refused (capturing ws r.conf) q)
       by (Ok t) w = captured t w
       by (Err e) w = tt
 
 -- ---- a pipeline room
 
 module _ (r : Room) (ws : List ℕ) where
-  abbrev pipeline_room : PipelineAnswer → Room
+  abbrev pipeline_room : Playing PipelinePart → Room
   pipeline_room s = with_pipeline r s.network s.part
 
-  abbrev Within : Result PipelineAnswer Refusal → Type 0
+  abbrev Within : Result (Playing PipelinePart) Refusal → Type 0
   Within q = Made r pipeline_room (λ k s. pipeline_turn ws r.conf s) q
 
-  ran : (k : ℕ) (s : PipelineAnswer) → Within (Ok s) → Within (pipeline_turn ws r.conf s)
+  ran : (k : ℕ) (s : Playing PipelinePart) → Within (Ok s) → Within (pipeline_turn ws r.conf s)
   unfolding pipeline_turn handed pipeline_of
   ran k s b =
-      either_cases Within (eqb (pipeline_part ws row_cells s.used r.conf s.network s.part s.cursor).refusal 0)
-      (λ e. one_call_more (PipelineRound ws s.cursor (replicate 5 0) s.used) b)
-      (λ e. tt)
+      made_if r pipeline_room (λ k s. pipeline_turn ws r.conf s) (pipeline_part ws row_cells s.used r.conf s.network s.part s.cursor).told _
+      (one_call_more (PipelineRound ws s.cursor (replicate 5 0) s.used) b)
 
 -- ---- from the room as opened
 
 -- an accepted frame's room
-opened : (f : Frame) (g : NetworkGraph) → open_refusal (asked_of f g) ≡ 0 → (open_of (asked_of f g)).room ≡ new_room (conf_of (asked_of f g)) 0
-unfolding open_of asked_of
-opened f g e = rw (eq-eqb (open_refusal (asked_of f g)) 0 e)
+opened : (f : Frame) (g : NetworkGraph) → opened_by (asked_of f g) ≡ new_room (conf_of (asked_of f g)) 0
+unfolding asked_of
+opened f g = refl
 
 -- one step more of a loop with an early exit
 module _ {S : Type 0} (stop : S → Bool) (step : S → S) where
@@ -135,11 +139,11 @@ module _ (conf : RoomConf) (ws : List ℕ) where
   proposals (suc n) =
       turned start (capture_room start ws) (capture_turn ws conf) (λ k. play_capture k ws conf) (both start ws) n (play_capture n ws conf) refl (proposals n)
 
-  abbrev Next : ℕ → Result PipelineAnswer Refusal → Type 0
+  abbrev Next : ℕ → Result (Playing PipelinePart) Refusal → Type 0
   Next n q = LeadsTo start (pipeline_room start ws) (λ k. pipeline_turn ws conf) (λ k. pipeline_turns ws conf k) n q
 
   more : (n : ℕ) → pipeline_turns ws conf (suc n) ≡ either (is_done (pipeline_turns ws conf n)) (pipeline_turns ws conf n) (unless_refused (pipeline_turn ws conf) (pipeline_turns ws conf n))
-  more n = go_more is_done (unless_refused (pipeline_turn ws conf)) n (Ok new_ran)
+  more n = go_more is_done (unless_refused (pipeline_turn ws conf)) n (Ok (new_play new_part))
 
   rounds : (n : ℕ) → Leads start (pipeline_room start ws) (λ k. pipeline_turn ws conf) (λ k. pipeline_turns ws conf k) n
   unfolding go new_room
@@ -155,8 +159,8 @@ played_by_calls =
     record {
       capture = λ f g ws e.
           let conf = conf_of (asked_of f g) in
-          subst (λ (o : Room). Leads o (capture_room o ws) (capture_turn ws conf) (λ k. play_capture k ws conf) f.transactions) (sym (opened f g e)) (proposals conf ws f.transactions);
+          subst (λ (o : Room). Leads o (capture_room o ws) (capture_turn ws conf) (λ k. play_capture k ws conf) f.transactions) (sym (opened f g)) (proposals conf ws f.transactions);
       pipeline = λ f g ws e.
           let conf = conf_of (asked_of f g) in
-          subst (λ (o : Room). Leads o (pipeline_room o ws) (λ k. pipeline_turn ws conf) (λ k. pipeline_turns ws conf k) (f.transactions + 1002)) (sym (opened f g e)) (rounds conf ws (f.transactions + 1002));
+          subst (λ (o : Room). Leads o (pipeline_room o ws) (λ k. pipeline_turn ws conf) (λ k. pipeline_turns ws conf k) (f.transactions + 1002)) (sym (opened f g)) (rounds conf ws (f.transactions + 1002));
     }

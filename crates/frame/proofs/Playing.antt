@@ -18,11 +18,13 @@ use Rattle.loops.specs.Runs.{go, runs, runs_none, runs_turn}
 use Rattle.loops.specs.Table.{tabulate, length_tabulate}
 use Rattle.texts.specs.Put.{Put, written, put_none, put_as, put_more, put_byte}
 use Rattle.limits.specs.declared.refusals.Refusal.{Refusal}
-use Rattle.pipeline.specs.declared.pipeline.PipelineAnswer.{PipelineAnswer}
+use Rattle.pipeline.specs.declared.pipeline.PipelinePart.{PipelinePart}
+use Rattle.room.specs.Capturing.{new_capture}
+use Rattle.frame.specs.declared.play.Playing.{Playing}
 use Rattle.room.specs.declared.room.RoomConf.{RoomConf}
 use Rattle.frame.specs.Bounds.{frame_digits, frame_words}
 use Rattle.frame.specs.Lines.{number_at, all_hex, name_length, has_name, is_kind, is_frame, word_count, words_of, fields_of, frame_of, no_frame}
-use Rattle.frame.specs.Play.{unless_refused, capture_turn, new_captured, play_capture, pipeline_turn, is_done, played_of}
+use Rattle.frame.specs.Play.{unless_refused, capture_turn, new_play, play_capture, pipeline_turn, is_done, played_of}
 use Rattle.frame.specs.Listing.{outcome_of, words_in}
 use Rattle.frame.specs.declared.line.Frame.{Frame}
 
@@ -137,13 +139,13 @@ module _ (s ws : List ℕ) {f : Frame} (e : Ok f ≡ frame_of s) {vs : List ℕ}
 
 -- ---- turns, as a loop takes them
 
-pub captured_none : (ws : List ℕ) (conf : RoomConf) → Ok new_captured ≡ play_capture 0 ws conf
+pub captured_none : (ws : List ℕ) (conf : RoomConf) → Ok (new_play (new_capture 0)) ≡ play_capture 0 ws conf
 unfolding play_capture upto
 captured_none ws conf = refl
 
 pub captured_more : (k : ℕ) (ws : List ℕ) (conf : RoomConf) → play_capture (k + 1) ws conf ≡ unless_refused (capture_turn ws conf k) (play_capture k ws conf)
 unfolding play_capture
-captured_more k ws conf = upto_more (λ j. unless_refused (capture_turn ws conf j)) (Ok new_captured) k
+captured_more k ws conf = upto_more (λ j. unless_refused (capture_turn ws conf j)) (Ok (new_play (new_capture 0))) k
 
 -- a refusal stays
 pub captured_refused : (t k : ℕ) (ws : List ℕ) (conf : RoomConf) {e : Refusal} → play_capture (k + 1) ws conf ≡ Err e → k < t → play_capture t ws conf ≡ Err e
@@ -160,24 +162,24 @@ captured_refused (suc t) k ws conf {e} h l = go (dec_lt k t) (λ m. captured_ref
 
 module _ (ws : List ℕ) (conf : RoomConf) where
   -- what at most n more turns leave
-  abbrev pub going : ℕ → Result PipelineAnswer Refusal → Result PipelineAnswer Refusal
+  abbrev pub going : ℕ → Result (Playing PipelinePart) Refusal → Result (Playing PipelinePart) Refusal
   going n r = runs is_done (unless_refused (pipeline_turn ws conf)) n r
 
-  going_ends : (n : ℕ) (r : Result PipelineAnswer Refusal) → is_done r ≡ true → going n r ≡ r
+  going_ends : (n : ℕ) (r : Result (Playing PipelinePart) Refusal) → is_done r ≡ true → going n r ≡ r
   unfolding go
   going_ends zero r e = refl
   going_ends (suc n) r e = rw e
 
-  pub going_stop : (n : ℕ) (s : PipelineAnswer) {v : Result PipelineAnswer Refusal} → s.part.stop ≡ true → going n (Ok s) ≡ v → Ok s ≡ v
+  pub going_stop : (n : ℕ) (s : Playing PipelinePart) {v : Result (Playing PipelinePart) Refusal} → s.part.stop ≡ true → going n (Ok s) ≡ v → Ok s ≡ v
   going_stop n s b e = sym (going_ends n (Ok s) b) ∙ e
 
-  pub going_refused : (n : ℕ) (k : Refusal) {v : Result PipelineAnswer Refusal} → going n (Err k) ≡ v → Err k ≡ v
+  pub going_refused : (n : ℕ) (k : Refusal) {v : Result (Playing PipelinePart) Refusal} → going n (Err k) ≡ v → Err k ≡ v
   going_refused n k e = sym (going_ends n (Err k) refl) ∙ e
 
-  pub going_out : {n k : ℕ} {r v : Result PipelineAnswer Refusal} → n ≤ k → going (n - k) r ≡ v → r ≡ v
+  pub going_out : {n k : ℕ} {r v : Result (Playing PipelinePart) Refusal} → n ≤ k → going (n - k) r ≡ v → r ≡ v
   going_out h e = runs_none is_done (unless_refused (pipeline_turn ws conf)) (omega arith) e
 
-  pub going_on : {n k : ℕ} (s : PipelineAnswer) {r v : Result PipelineAnswer Refusal} → k < n → s.part.stop ≡ false → r ≡ pipeline_turn ws conf s → going (n - k) (Ok s) ≡ v → going (n - (k + 1)) r ≡ v
+  pub going_on : {n k : ℕ} (s : Playing PipelinePart) {r v : Result (Playing PipelinePart) Refusal} → k < n → s.part.stop ≡ false → r ≡ pipeline_turn ws conf s → going (n - k) (Ok s) ≡ v → going (n - (k + 1)) r ≡ v
   going_on {n} {k} s {r} h b q e =
       ap (λ (m : ℕ). going m r) (less n k) ∙ runs_turn is_done (unless_refused (pipeline_turn ws conf)) {s = Ok s} (omega arith) b q e
     where

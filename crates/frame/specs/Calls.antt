@@ -3,7 +3,7 @@
 -- nothing: it is proved in proofs/Called.antt.
 use Rattle.std.specs.Prelude.{Result, Ok, Err, List, ◌≡◌, ◌<◌, ◌+◌, ℕ}
 use Rattle.limits.specs.declared.refusals.Refusal.{Refusal}
-use Rattle.room.specs.Rooms.{open_refusal, conf_of, open_of, with_capture, with_pipeline}
+use Rattle.room.specs.Rooms.{open_test, conf_of, opened_by, with_capture, with_pipeline}
 use Rattle.graph.specs.declared.network.NetworkGraph.{NetworkGraph}
 use Rattle.room.specs.declared.room.Room.{Room}
 use Rattle.demand.specs.Calls.{ByCalls}
@@ -29,11 +29,11 @@ Leads r made turn left n = LeadsTo r made turn left n (left n)
 
 -- For every frame whose room is accepted, with any links and words. (Without that nothing is played.)
 pub record PlayedByCalls : Type 0 where
-  pub capture : (f : Frame) (g : NetworkGraph) (ws : List ℕ) → open_refusal (asked_of f g) ≡ 0
-      → let r = (open_of (asked_of f g)).room in
+  pub capture : (f : Frame) (g : NetworkGraph) (ws : List ℕ) → open_test (asked_of f g) ≡ Ok tt
+      → let r = opened_by (asked_of f g) in
       let conf = conf_of (asked_of f g) in
       Leads r (λ s. with_capture r s.network s.part) (capture_turn ws conf) (λ k. play_capture k ws conf) f.transactions
-  pub pipeline : (f : Frame) (g : NetworkGraph) (ws : List ℕ) → open_refusal (asked_of f g) ≡ 0
-      → let r = (open_of (asked_of f g)).room in
+  pub pipeline : (f : Frame) (g : NetworkGraph) (ws : List ℕ) → open_test (asked_of f g) ≡ Ok tt
+      → let r = opened_by (asked_of f g) in
       let conf = conf_of (asked_of f g) in
       Leads r (λ s. with_pipeline r s.network s.part) (λ k. pipeline_turn ws conf) (λ k. pipeline_turns ws conf k) (f.transactions + 1002)

@@ -1,6 +1,7 @@
 -- RULES 13.3, 13.4 and 13.7, and refusals 2 to 7 of RULES 15: the room that a frame asks for, the calls that it makes,
 -- and what comes of them. Assumes nothing: these are definitions.
 use Rattle.std.specs.Prelude.{ℕ, ◌+◌, ◌%◌, Bool, true, not, ◌&&◌, Result, Ok, Err, List, eqb, leb}
+use Rattle.std.specs.Result.{result_and}
 use Rattle.std.specs.Float.{binary64}
 use Rattle.std.specs.Float.Ieee.{of_bits}
 use Rattle.loops.specs.Pick.{either}
@@ -8,51 +9,26 @@ use Rattle.loops.specs.Upto.{upto}
 use Rattle.loops.specs.Runs.{runs}
 use Rattle.limits.specs.Limits.{positions, last_slot, row_cells}
 use Rattle.limits.specs.declared.refusals.Refusal.{Refusal}
-use Rattle.limits.specs.declared.refusals.Refusal.TheVariants.{BadLine, BadPositions, BadLinks, BadLoss, NoRepeats}
-use Rattle.limits.specs.declared.refusals.Refusal.TheVariants.{NoInterval, ManyTransactions, NoPosition, BadPacket}
-use Rattle.limits.specs.declared.refusals.Refusal.TheVariants.{NoFit, OtherKind, NoProposal, NoTerm, Stopped, TooLong}
-use Rattle.limits.specs.declared.refusals.Refusal.TheVariants.{WordsShort, RowsShort}
+use Rattle.limits.specs.declared.refusals.Refusal.TheVariants.{BadPositions}
 use Rattle.graph.specs.Links.{topology_of}
 use Rattle.graph.specs.declared.network.NetworkGraph.{NetworkGraph}
 use Rattle.engines.specs.Network.{new_network}
 use Rattle.engines.specs.declared.settings.Settings.{Settings}
 use Rattle.pipeline.specs.Round.{new_part}
-use Rattle.pipeline.specs.declared.pipeline.PipelineAnswer.{PipelineAnswer}
+use Rattle.pipeline.specs.declared.pipeline.PipelinePart.{PipelinePart}
 use Rattle.room.specs.Capturing.{new_capture, propose_part, capture_part}
 use Rattle.room.specs.Pipelining.{pipeline_part}
 use Rattle.room.specs.Kinds.{positions_of}
-use Rattle.room.specs.Rooms.{open_refusal, conf_of}
+use Rattle.room.specs.Rooms.{open_test, conf_of}
 use Rattle.room.specs.declared.room.RoomKind.{RoomKind}
 use Rattle.room.specs.declared.room.RoomKind.TheVariants as kinds
 use Rattle.room.specs.declared.room.RoomConf.{RoomConf}
 use Rattle.room.specs.declared.room.Asked.{Asked}
-use Rattle.room.specs.declared.capture_calls.Captured.{Captured}
+use Rattle.room.specs.declared.capture_calls.CapturePart.{CapturePart}
+use Rattle.frame.specs.declared.play.Playing.{Playing}
 use Rattle.frame.specs.declared.line.Frame.{Frame}
 
--- ---- refusals that the layers below tell by their numbers
-
-abbrev pub refusal_of : ℕ → Refusal
-refusal_of k =
-    either (eqb k 1) BadLine
-    (either (eqb k 2) BadPositions
-    (either (eqb k 3) BadLinks
-    (either (eqb k 4) BadLoss
-    (either (eqb k 5) NoRepeats
-    (either (eqb k 6) NoInterval
-    (either (eqb k 7) ManyTransactions
-    (either (eqb k 8) NoPosition
-    (either (eqb k 9) BadPacket
-    (either (eqb k 10) NoFit
-    (either (eqb k 11) OtherKind
-    (either (eqb k 12) NoProposal
-    (either (eqb k 13) NoTerm
-    (either (eqb k 14) Stopped
-    (either (eqb k 15) TooLong
-    (either (eqb k 16) WordsShort RowsShort)))))))))))))))
-
--- the value beside such a number, unless that tells a refusal
-abbrev pub told : {A : Type 0} → ℕ → A → Result A Refusal
-told k a = either (eqb k 0) (Ok a) (Err (refusal_of k))
+-- ---- what comes of calls, one after the other
 
 -- the value that a call left where it was lent, unless it was refused
 abbrev pub left_by : {A : Type 0} → Result (Unit {0}) Refusal → A → Result A Refusal
@@ -96,57 +72,54 @@ asked_of f g =
 -- ---- the calls of a capture room, on the parts that they move: each gets what the one before it handed back, and the
 -- lent buffer holds one row
 
-unfoldable pub proposing : RoomConf → ℕ → Captured → Result Captured Refusal
+unfoldable pub proposing : RoomConf → ℕ → Playing CapturePart → Result (Playing CapturePart) Refusal
 proposing conf v s =
     let p = propose_part conf s.part v in
-    told p.refusal (record { refusal = s.refusal; cursor = s.cursor; used = s.used; network = s.network; part = p.part })
+    result_and p.told (Ok (record { cursor = s.cursor; used = s.used; network = s.network; part = p.part }))
 
-unfoldable pub capturing : List ℕ → RoomConf → Captured → Result Captured Refusal
+unfoldable pub capturing : List ℕ → RoomConf → Playing CapturePart → Result (Playing CapturePart) Refusal
 capturing ws conf s =
     let r = capture_part ws row_cells s.used conf s.network s.part s.cursor in
-    told r.refusal r
+    result_and r.told (Ok (record { cursor = r.cursor; used = r.used; network = r.network; part = r.part }))
 
 -- the positions take turns in proposing, and each proposal gets one round
-unfoldable pub capture_turn : List ℕ → RoomConf → ℕ → Captured → Result Captured Refusal
+unfoldable pub capture_turn : List ℕ → RoomConf → ℕ → Playing CapturePart → Result (Playing CapturePart) Refusal
 capture_turn ws conf k s = unless_refused (capturing ws conf) (proposing conf (k % positions_of conf) s)
 
 -- as opened
-abbrev pub new_captured : Captured
-new_captured = record { refusal = 0; cursor = 0; used = 0; network = new_network; part = new_capture 0 }
+abbrev pub new_play : {P : Type 0} → P → Playing P
+new_play part = record { cursor = 0; used = 0; network = new_network; part = part }
 
 -- A capture room takes its proposals.
-unfoldable pub play_capture : ℕ → List ℕ → RoomConf → Result Captured Refusal
-play_capture t ws conf = upto t (λ k. unless_refused (capture_turn ws conf k)) (Ok new_captured)
+unfoldable pub play_capture : ℕ → List ℕ → RoomConf → Result (Playing CapturePart) Refusal
+play_capture t ws conf = upto t (λ k. unless_refused (capture_turn ws conf k)) (Ok (new_play (new_capture 0)))
 
 -- ---- the rounds of a pipeline room
 
-unfoldable pub pipeline_turn : List ℕ → RoomConf → PipelineAnswer → Result PipelineAnswer Refusal
+unfoldable pub pipeline_turn : List ℕ → RoomConf → Playing PipelinePart → Result (Playing PipelinePart) Refusal
 pipeline_turn ws conf s =
     let r = pipeline_part ws row_cells s.used conf s.network s.part s.cursor in
-    told r.refusal r
+    result_and r.told (Ok (record { cursor = r.cursor; used = r.used; network = r.network; part = r.part }))
 
-abbrev pub is_done : Result PipelineAnswer Refusal → Bool
+abbrev pub is_done : Result (Playing PipelinePart) Refusal → Bool
 is_done (Ok s) = s.part.stop
 is_done (Err k) = true
 
-abbrev pub new_ran : PipelineAnswer
-new_ran = record { refusal = 0; cursor = 0; used = 0; network = new_network; part = new_part }
-
 -- the rounds of a pipeline room up to so many, and none once it has stopped
-abbrev pub pipeline_turns : List ℕ → RoomConf → ℕ → Result PipelineAnswer Refusal
-pipeline_turns ws conf k = runs is_done (unless_refused (pipeline_turn ws conf)) k (Ok new_ran)
+abbrev pub pipeline_turns : List ℕ → RoomConf → ℕ → Result (Playing PipelinePart) Refusal
+pipeline_turns ws conf k = runs is_done (unless_refused (pipeline_turn ws conf)) k (Ok (new_play new_part))
 
 -- A pipeline room runs until it has stopped: the round of number T + 1001 stops it if none before it does, so that T +
 -- 1002 rounds are always enough (Stopping.antt).
-unfoldable pub play_pipeline : ℕ → List ℕ → RoomConf → Result PipelineAnswer Refusal
+unfoldable pub play_pipeline : ℕ → List ℕ → RoomConf → Result (Playing PipelinePart) Refusal
 play_pipeline t ws conf = pipeline_turns ws conf (t + 1002)
 
 -- ---- what comes of them: the bytes sent over all rounds, or the refusal
 
-abbrev pub capture_end : Captured → Result ℕ Refusal
+abbrev pub capture_end : Playing CapturePart → Result ℕ Refusal
 capture_end s = Ok s.network.bytes_sent
 
-abbrev pub pipeline_end : PipelineAnswer → Result ℕ Refusal
+abbrev pub pipeline_end : Playing PipelinePart → Result ℕ Refusal
 pipeline_end s = Ok s.network.bytes_sent
 
 abbrev pub play_as : RoomKind → ℕ → List ℕ → RoomConf → Result ℕ Refusal
@@ -158,7 +131,7 @@ play_of f ws conf = play_as f.kind f.transactions ws conf
 
 -- what the room goes by, if it is accepted
 abbrev pub accepted_by : Asked → Result RoomConf Refusal
-accepted_by a = told (open_refusal a) (conf_of a)
+accepted_by a = result_and (open_test a) (Ok (conf_of a))
 
 -- with the links of a topology
 unfoldable pub played_in : Frame → List ℕ → NetworkGraph → Result ℕ Refusal

@@ -1,7 +1,7 @@
 -- RULES 13.4: pipeline rounds run until stopped. Assumes nothing: it is proved in proofs/Lasting.antt.
-use Rattle.std.specs.Prelude.{true, List, ◌≡◌, ℕ}
+use Rattle.std.specs.Prelude.{true, Ok, List, ◌≡◌, ℕ}
 use Rattle.graph.specs.declared.network.NetworkGraph.{NetworkGraph}
-use Rattle.room.specs.Rooms.{open_refusal, conf_of}
+use Rattle.room.specs.Rooms.{open_test, conf_of}
 use Rattle.frame.specs.declared.line.Frame.{Frame}
 use Rattle.frame.specs.Play.{asked_of, is_done, play_pipeline}
 
@@ -9,5 +9,5 @@ use Rattle.frame.specs.Play.{asked_of, is_done, play_pipeline}
 -- refused. Whatever the links and the words are, as long as the room is accepted, without which nothing is played.
 abbrev pub RunsUntilStopped : Type 0
 RunsUntilStopped =
-    (f : Frame) (g : NetworkGraph) (ws : List ℕ) → open_refusal (asked_of f g) ≡ 0
+    (f : Frame) (g : NetworkGraph) (ws : List ℕ) → open_test (asked_of f g) ≡ Ok tt
     → is_done (play_pipeline f.transactions ws (conf_of (asked_of f g))) ≡ true

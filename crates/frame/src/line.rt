@@ -95,7 +95,8 @@ fn value(b: u8) -> u64
     (b % 16 + b / 64 * 9) as u64
 }
 
-// The word whose 16 digits begin at place i.
+// The word whose 16 digits begin at place i: a place and not a part of the line, as the rules count places from its
+// begin (RULES 13.1). The clause says that it stands within the line, and that `value` serves.
 #[tactic(auto, using(crate::proofs::Digits::number_none, crate::proofs::Digits::number_room, crate::proofs::Digits::number_more, crate::proofs::Digits::digit_lt, crate::proofs::Digits::hex_at))]
 pub(crate) fn word_at(s: &[u8], i: usize) -> u64
     requires { (i + 16 ≤ length s.now) × (all_hex s.now ≡ true) }
@@ -134,6 +135,7 @@ fn is_kind(k: u8) -> bool
     matches!(k, 1 | 2)
 }
 
+// No `TryFrom`: `RoomKind` is room's, and a line of no kind is refused before, with all else that refusal 1 is about.
 fn kind_of(k: u8) -> RoomKind
     ensures { result ≡ kind_of k }
 {

@@ -1,8 +1,8 @@
 // RULES 14.1. A frame line in, its listing line out.
-ghost use Rattle.std.specs.Prelude.{true, ◌≡◌, ◌+◌, ◌*◌, ◌≤◌, ◌<◌, length, IfOk};
+ghost use Rattle.std.specs.Prelude.{true, ◌≡◌, ◌+◌, ◌*◌, ◌≤◌, length, IfOk};
 ghost use Rattle.loops.specs.Table.{tabulate};
 ghost use Rattle.texts.specs.Put.{Put, written};
-ghost use Rattle.frame.specs.Bounds.{frame_words, listing_bytes};
+ghost use Rattle.frame.specs.Bounds.{listing_bytes};
 ghost use Rattle.frame.specs.Lines.{number_at, all_hex};
 ghost use Rattle.frame.specs.Listing.{outcome_of, name_of, sent_text, refused_text, text_of, listed_of, words_in, words_after, listed_in};
 
@@ -11,6 +11,7 @@ use crate::{line, play, put};
 use limits::refusals::Refusal;
 
 // The words that stand from place i on. They are lent, so that nobody clears room for the most that a frame may have.
+// That they stand within the line is what `is_frame` found of all its fields, so a clause says it as of `word_at`.
 #[tactic(auto, using(crate::proofs::Playing::words_stored))]
 fn read_words(s: &[u8], i: usize, count: usize, words: &mut [u64])
     requires { (i + 16 * count ≤ length s.now) × (count ≤ length words.old) × (all_hex s.now ≡ true) }
@@ -21,8 +22,7 @@ fn read_words(s: &[u8], i: usize, count: usize, words: &mut [u64])
     }
 }
 
-fn outcome_of(s: &[u8], words: &mut [u64]) -> Result<u64, Refusal>
-    requires { frame_words ≤ length words.old }
+fn outcome_of(s: &[u8], words: &mut [u64; WORDS]) -> Result<u64, Refusal>
     ensures { (result ≡ outcome_of s.now) × (words.new ≡ words_in s.now words.old) }
 {
     let f = line::read_frame(s)?;
@@ -31,38 +31,34 @@ fn outcome_of(s: &[u8], words: &mut [u64]) -> Result<u64, Refusal>
     play::play_frame(f, &words[..count])
 }
 
-#[tactic(auto, using(crate::proofs::Texts::name_start, crate::proofs::Texts::name_length_lem))]
-fn put_name(s: &[u8], out: &mut [u8], n: u8) -> usize
-    requires { n ≤ length out.old }
-    ensures { Put out.old 0 (name_of s.now n) result out.new }
+// The bytes of a name of so many.
+fn put_name(s: &[u8], out: &mut [u8; LISTING], n: u8)
+    ensures { Put out.old 0 (name_of s.now n) n out.new }
 {
-    let mut o: usize = 0;
     for k in 0..n as usize {
-        o = put::put_byte(out, o, line::byte_at(s, 76 + 2 * k));
+        out[k] = line::byte_at(s, 76 + 2 * k);
     }
-    o
 }
 
-fn put_sent(s: &[u8], out: &mut [u8], sent: u64) -> usize
-    requires { listing_bytes ≤ length out.old }
+fn put_sent(s: &[u8], out: &mut [u8; LISTING], sent: u64) -> usize
     ensures { Put out.old 0 (sent_text s.now sent) result out.new × (result ≤ listing_bytes) }
 {
-    let o = put_name(s, out, line::name_length(s));
-    let p = put::put_byte(out, o, b' ');
-    put::put_decimal(out, p, sent)
+    let n = line::name_length(s);
+    put_name(s, out, n);
+    let end = n as usize;
+    out[end] = b' ';
+    end + 1 + put::put_decimal(&mut out[end + 1..], sent)
 }
 
-fn put_refused(out: &mut [u8], refusal: u64) -> usize
-    requires { listing_bytes ≤ length out.old }
+fn put_refused(out: &mut [u8; LISTING], refusal: u64) -> usize
     ensures { Put out.old 0 (refused_text refusal) result out.new × (result ≤ listing_bytes) }
 {
-    let o = put::put_all(out, 0, b"refused ");
-    put::put_decimal(out, o, refusal)
+    out[..8].copy_from_slice(b"refused ");
+    8 + put::put_decimal(&mut out[8..], refusal)
 }
 
 #[tactic(auto, unfolding(crate::specs::Listing::text_of))]
-fn put_text(s: &[u8], out: &mut [u8], outcome: Result<u64, Refusal>) -> usize
-    requires { listing_bytes ≤ length out.old }
+fn put_text(s: &[u8], out: &mut [u8; LISTING], outcome: Result<u64, Refusal>) -> usize
     ensures { Put out.old 0 (text_of s.now outcome) result out.new × (result ≤ listing_bytes) }
 {
     match outcome {
@@ -76,12 +72,12 @@ fn put_text(s: &[u8], out: &mut [u8], outcome: Result<u64, Refusal>) -> usize
 pub fn list_frame(line: &[u8], words: &mut [u64], out: &mut [u8]) -> Result<usize, Refusal>
     ensures { (result ≡ listed_of line.now (length words.old) (length out.old)) × (IfOk result (λ len. len ≤ listing_bytes)) × (words.new ≡ words_after line.now words.old (length out.old)) × (out.new ≡ listed_in line.now (length words.old) out.old) }
 {
-    if words.len() < WORDS {
+    let Some(words) = words.first_chunk_mut::<WORDS>() else {
         return Err(Refusal::NoFit);
-    }
-    if out.len() < LISTING {
+    };
+    let Some(out) = out.first_chunk_mut::<LISTING>() else {
         return Err(Refusal::NoFit);
-    }
+    };
     let outcome = outcome_of(line, words);
     Ok(put_text(line, out, outcome))
 }

@@ -3,53 +3,17 @@ ghost use Rattle.std.specs.Prelude.{◌≡◌, ◌<◌};
 ghost use Rattle.std.specs.Float.{binary64};
 ghost use Rattle.std.specs.Float.Ieee.{of_bits, nan_bits};
 ghost use Rattle.room.specs.Kinds.{positions_of};
-ghost use Rattle.frame.specs.Play.{refusal_of, told, left_by, unless_refused, capture_end, pipeline_end, settings_of, asked_of, proposing, capturing, capture_turn, new_captured, play_capture, pipeline_turn, new_ran, play_pipeline, play_of, accepted_by, played_in, links_of, played_of};
+ghost use Rattle.frame.specs.Play.{left_by, unless_refused, capture_end, pipeline_end, settings_of, asked_of, new_play, proposing, capturing, capture_turn, play_capture, pipeline_turn, play_pipeline, play_of, accepted_by, played_in, links_of, played_of};
 
 use crate::line::Frame;
 use engines::network::Network;
 use engines::settings::Settings;
 use graph::network::NetworkGraph;
 use limits::refusals::Refusal;
-use pipeline::pipeline::{PipelineAnswer, PipelinePart};
-use room::capture_calls::{CapturePart, Captured};
+use pipeline::pipeline::PipelinePart;
+use room::capture_calls::CapturePart;
 use room::room::{Asked, Room, RoomConf, RoomKind};
 use room::{capture_calls, pipeline_calls, room as rooms};
-
-// ---- refusals that the layers below tell by their numbers
-
-fn refusal_of(number: u64) -> Refusal
-    ensures { result ≡ refusal_of number }
-{
-    match number {
-        1 => Refusal::BadLine,
-        2 => Refusal::BadPositions,
-        3 => Refusal::BadLinks,
-        4 => Refusal::BadLoss,
-        5 => Refusal::NoRepeats,
-        6 => Refusal::NoInterval,
-        7 => Refusal::ManyTransactions,
-        8 => Refusal::NoPosition,
-        9 => Refusal::BadPacket,
-        10 => Refusal::NoFit,
-        11 => Refusal::OtherKind,
-        12 => Refusal::NoProposal,
-        13 => Refusal::NoTerm,
-        14 => Refusal::Stopped,
-        15 => Refusal::TooLong,
-        16 => Refusal::WordsShort,
-        _ => Refusal::RowsShort,
-    }
-}
-
-// 0 is no refusal.
-fn told(number: u64) -> Result<(), Refusal>
-    ensures { result ≡ told number tt }
-{
-    if number != 0 {
-        return Err(refusal_of(number));
-    }
-    Ok(())
-}
 
 // ---- the room
 
@@ -106,34 +70,62 @@ fn asked_of(f: Frame, graph: NetworkGraph) -> Asked
     }
 }
 
-// ---- the calls of a capture room. They move its network and its own part: a frame needs nothing else of a room.
+// ---- the calls of a room. They move its network and the part of its kind: a frame needs nothing else of a room.
+
+// Where the calls have come to: the words drawn, the rows used, the network, and the part of the room's kind.
+#[derive(Clone, Copy)]
+pub struct Playing<P> {
+    pub cursor: usize,
+    pub used: usize,
+    pub network: Network,
+    pub part: P,
+}
+
+fn new_play<P>(part: P) -> Playing<P>
+    ensures { result ≡ new_play part }
+{
+    Playing {
+        cursor: 0,
+        used: 0,
+        network: Network::new(),
+        part,
+    }
+}
 
 #[tactic(auto, unfolding(crate::specs::Play::proposing))]
-fn propose(conf: RoomConf, v: usize, s: &mut Captured) -> Result<(), Refusal>
+fn propose(conf: RoomConf, v: usize, s: &mut Playing<CapturePart>) -> Result<(), Refusal>
     ensures { left_by result s.new ≡ proposing conf v s.old }
 {
-    let before = s.part;
-    let p = capture_calls::propose(conf, before, v);
-    told(p.refusal)?;
-    s.part = p.part;
-    Ok(())
+    capture_calls::propose(conf, &mut s.part, v)
 }
 
-// The row that a round writes is not read. The answer goes where the old one stood: handed back in a Result it is
-// copied twice more, which made pipeline frames slower by a quarter.
+// The row that a round writes is not read.
 #[tactic(auto, unfolding(crate::specs::Play::capturing))]
-fn capture_next(words: &[u64], conf: RoomConf, s: &mut Captured) -> Result<(), Refusal>
+fn capture_next(words: &[u64], conf: RoomConf, s: &mut Playing<CapturePart>) -> Result<(), Refusal>
     ensures { left_by result s.new ≡ capturing words.now conf s.old }
 {
-    let w = s.network;
-    let part = s.part;
-    let mut row = [0u64; 5];
-    *s = capture_calls::capture_round(words, s.cursor, &mut row, s.used, conf, w, part);
-    told(s.refusal)
+    let mut row = [0u64; limits::ROW];
+    let w = &mut s.network;
+    capture_calls::capture_round(
+        words,
+        &mut s.cursor,
+        &mut row,
+        &mut s.used,
+        conf,
+        w,
+        &mut s.part,
+    )
 }
 
+// That an accepted room has a position stands in the clauses of this, `play_capture` and `play`: the fields of RoomConf
+// stay open, so no type of it can say so.
 #[tactic(auto, unfolding(crate::specs::Play::capture_turn))]
-fn capture_turn(words: &[u64], conf: RoomConf, k: usize, s: &mut Captured) -> Result<(), Refusal>
+fn capture_turn(
+    words: &[u64],
+    conf: RoomConf,
+    k: usize,
+    s: &mut Playing<CapturePart>,
+) -> Result<(), Refusal>
     requires { 0 < positions_of conf }
     ensures { left_by result s.new ≡ capture_turn words.now conf k s.old }
 {
@@ -141,61 +133,45 @@ fn capture_turn(words: &[u64], conf: RoomConf, k: usize, s: &mut Captured) -> Re
     capture_next(words, conf, s)
 }
 
-fn new_captured() -> Captured
-    ensures { result ≡ new_captured }
-{
-    Captured {
-        refusal: 0,
-        cursor: 0,
-        used: 0,
-        network: Network::new(),
-        part: CapturePart::new(0),
-    }
-}
-
 fn play_capture(words: &[u64], conf: RoomConf, t: usize) -> Result<u64, Refusal>
     requires { 0 < positions_of conf }
     ensures { result ≡ unless_refused capture_end (play_capture t words.now conf) }
 {
-    let mut captured = new_captured();
+    let mut captured = new_play(CapturePart::new(0));
     for k in 0..t {
         capture_turn(words, conf, k, &mut captured)?;
     }
     Ok(captured.network.bytes_sent)
 }
 
-// ---- the rounds of a pipeline room
-
-// The same as `capture_next`, of another call and another answer: one function of both would be given the call as a
-// closure, and be no shorter.
+// The same as `capture_next`, of another call: one function of both would be given the call as a closure, and be no
+// shorter.
 #[tactic(auto, unfolding(crate::specs::Play::pipeline_turn))]
-fn pipeline_turn(words: &[u64], conf: RoomConf, s: &mut PipelineAnswer) -> Result<(), Refusal>
+fn pipeline_turn(
+    words: &[u64],
+    conf: RoomConf,
+    s: &mut Playing<PipelinePart>,
+) -> Result<(), Refusal>
     ensures { left_by result s.new ≡ pipeline_turn words.now conf s.old }
 {
-    let w = s.network;
-    let part = s.part;
-    let mut row = [0u64; 5];
-    *s = pipeline_calls::pipeline_round(words, s.cursor, &mut row, s.used, conf, w, part);
-    told(s.refusal)
-}
-
-fn new_ran() -> PipelineAnswer
-    ensures { result ≡ new_ran }
-{
-    PipelineAnswer {
-        refusal: 0,
-        cursor: 0,
-        used: 0,
-        network: Network::new(),
-        part: PipelinePart::new(),
-    }
+    let mut row = [0u64; limits::ROW];
+    let w = &mut s.network;
+    pipeline_calls::pipeline_round(
+        words,
+        &mut s.cursor,
+        &mut row,
+        &mut s.used,
+        conf,
+        w,
+        &mut s.part,
+    )
 }
 
 fn play_pipeline(words: &[u64], conf: RoomConf, t: usize) -> Result<u64, Refusal>
     requires { t < 256 }
     ensures { result ≡ unless_refused pipeline_end (play_pipeline t words.now conf) }
 {
-    let mut ran = new_ran();
+    let mut ran = new_play(PipelinePart::new());
     for k in 0..t + 1002 {
         if ran.part.stop {
             return Ok(ran.network.bytes_sent);
@@ -222,7 +198,7 @@ fn play(f: Frame, words: &[u64], conf: RoomConf) -> Result<u64, Refusal>
 fn accepted(asked: Asked) -> Result<RoomConf, Refusal>
     ensures { result ≡ accepted_by asked }
 {
-    told(rooms::open_refusal(asked))?;
+    asked.check()?;
     Ok(rooms::conf_of(asked))
 }
 

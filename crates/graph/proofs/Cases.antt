@@ -1,4 +1,5 @@
 -- The rules computed: some of the Rust's answers, and what RULES 2.2 says of small rings. Assumes nothing.
+use Rattle.std.specs.Prelude.{Ok}
 use mathlib.Core.Path.{◌≡◌, refl}
 use mathlib.Core.Bool.{Bool, true, false, not, ◌&&◌, ◌||◌}
 use mathlib.Core.List.{List, [], ◌∷◌}
@@ -10,7 +11,7 @@ use Rattle.loops.specs.Table.{filled, tabulate, filled_at}
 use Rattle.marks.specs.Marks.{has, marks, any_of}
 use Rattle.marks.specs.Sets.{all_found, has_marks}
 use Rattle.graph.specs.declared.network.Topology.TheVariants.{FullMesh, Line, Ring, Grid, Tree}
-use Rattle.graph.specs.Links.{is_size, graph_by, inside, size_test, all_inside, graph_test, graph_refusal, linked, link_of, ahead_of, mesh_rule, next_rule, ring_rule, grid_rule, tree_rule}
+use Rattle.graph.specs.Links.{is_size, graph_by, inside, size_test, all_inside, graph_test, linked, link_of, ahead_of, mesh_rule, next_rule, ring_rule, grid_rule, tree_rule}
 use Rattle.graph.specs.declared.network.NetworkGraph.{NetworkGraph}
 use Rattle.graph.specs.Paths.{diameter_of}
 use Rattle.graph.specs.Waves.{start_of, moved_to, step_of, wave_of}
@@ -39,7 +40,7 @@ unfolding inside
 marks_inside n f =
     all_found 64 (λ j. not (has (marks n f) j) || ltb j n) (λ j h. rw (has_marks n f j) (below (ltb j n) (f j)))
 
-pub built_accepted : (n : ℕ) (link : ℕ → ℕ → Bool) → is_size n ≡ true → graph_refusal (graph_by n link) ≡ 0
+pub built_accepted : (n : ℕ) (link : ℕ → ℕ → Bool) → is_size n ≡ true → graph_test (graph_by n link) ≡ Ok tt
 unfolding graph_by graph_test size_test all_inside
 built_accepted n link e =
     let rows = filled 0 64 n (λ i. marks n (link i)) in

@@ -7,16 +7,16 @@ use native.Mathlib.Nat.{le-div_iff_mul-le, div-lt_iff_lt-mul, div-eq_of_lt-le, s
 use native.Mathlib.Numerals.{add-one}
 use native.Mathlib.Omega.{arith}
 use lib.Dec.{eqb, ltb, leb}
-use lib.ListN.{length, get_or, set, drop, replicate, length-append}
+use lib.ListN.{length, get_or, set, take, drop, replicate, length-append}
 use borrow.Author.Tests.{eq-eqb, eqb-true, eqb-false, lt-ltb, le-ltb, ltb-true, le-leb, leb-true, lt-leb}
 use Rattle.std.specs.Prelude.{Ok}
 use Rattle.limits.specs.Refusals.{holds_or}
 use Rattle.limits.proofs.Tests.{held, first_held, second_held}
 use Rattle.limits.specs.declared.refusals.Refusal.TheVariants.{BadPositions, NoPosition}
 use Rattle.loops.specs.Stores.{sets_append}
-use Rattle.std.proofs.lemmas.List.{drop-replicate}
+use Rattle.std.proofs.lemmas.List.{drop-replicate, get_or-take, length-take-le}
 use Rattle.loops.specs.Table.{filled, tabulate_get}
-use Rattle.marks.specs.Sets.{iff, and_true, true_and, all_at, all_found, none_zero, members_more, members_count, count_le, all_there, all_short}
+use Rattle.marks.specs.Sets.{iff, and_true, true_and, all_at, all_found, none_zero, marks_is, members_more, members_count, count_le, all_there, all_short}
 use Rattle.marks.specs.Marks.{has, marks, all_of, members}
 use Rattle.marks.specs.Laws.{has_none}
 use Rattle.graph.specs.declared.network.NetworkGraph.{NetworkGraph}
@@ -167,3 +167,26 @@ node_parts g i e =
 pub copied_is : (l : List ℕ) → length l ≤ 64 → l ++ drop (length l) (replicate 64 0) ≡ filled 0 64 (length l) (λ i. get_or l i 0)
 unfolding filled
 copied_is l h = rw (tabulate_get l 0, drop-replicate {X = ℕ} (length l) 64 0)
+
+-- what holds of the first n by one rule and by another that agree there
+all_same : (n : ℕ) (f g : ℕ → Bool) → ((i : ℕ) → i < n → f i ≡ g i) → all_of n f ≡ all_of n g
+all_same n f g h = iff (all_of n f) (all_of n g) (λ e. all_found n g (λ i k. sym (h i k) ∙ all_at n f e i k)) (λ e. all_found n f (λ i k. h i k ∙ all_at n g e i k))
+
+-- the rows in front are all that is asked for
+pub rows_front : (n : ℕ) (l : List ℕ) → n ≤ length l → all_inside (length (take n l)) (take n l) ≡ all_inside n l
+unfolding all_inside
+rows_front n l h =
+    let e : length (take n l) ≡ n = length-take-le n l h in
+    rw (e, all_same n (λ i. inside n (get_or (take n l) i 0)) (λ i. inside n (get_or l i 0)) (λ i k. ap (inside n) (get_or-take n l i 0 k)))
+
+-- a row by its marks
+pub row_is : (n r : ℕ) (f : ℕ → Bool) → n ≤ 64 → r < 2 ^ 64 → ((j : ℕ) → has r j ≡ ((ltb j n && ltb j 64) && f j)) → r ≡ marks n f
+row_is n r f h l e = marks_is n f r h l (λ j. e j ∙ by (ltb j n) (ltb j 64) (f j) (λ t. lt-ltb j 64 (omega (arith, ltb-true j n t))))
+  where
+    by : (a b c : Bool) → (a ≡ true → b ≡ true) → ((a && b) && c) ≡ (a && c)
+    by true b c g = rw (g refl)
+    by false b c g = refl
+
+-- so many places stand in front of an array of 64
+pub fits_front : (n : ℕ) → n ≤ 64 → length {A = ℕ} (take n (replicate 64 0)) ≡ n
+fits_front n h = let l : List ℕ = replicate 64 0 in length-take-le n l h

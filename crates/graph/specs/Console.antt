@@ -11,10 +11,6 @@ use Rattle.graph.specs.declared.network.NeighborList.{NeighborList}
 use Rattle.graph.specs.Links.{topology_of, rows_of, neighbors_of}
 use Rattle.graph.specs.Paths.{has_link_of, reaches_of, length_of}
 
--- the first of two refusals that is one; 0 is none
-unfoldable pub first : ℕ → ℕ → ℕ
-first a b = either (eqb a 0) b a
-
 -- Refusal 10: a buffer that is to take 64 numbers, one for each position that there may be, is shorter.
 abbrev pub room64 : ℕ → Tested
 room64 n = holds_or (leb positions n) NoFit

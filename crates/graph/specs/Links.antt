@@ -4,7 +4,7 @@ use Rattle.std.specs.Prelude.{Bool, not, Result, Ok, Err, ◌||◌, ◌&&◌, Li
 use Rattle.std.specs.Result.{result_and}
 use Rattle.std.proofs.lemmas.List.Edits.{sets}
 use Rattle.limits.specs.Limits.{positions}
-use Rattle.limits.specs.Refusals.{Tested, holds_or, answer_of}
+use Rattle.limits.specs.Refusals.{Tested, holds_or}
 use Rattle.limits.specs.declared.refusals.Refusal.{Refusal}
 use Rattle.limits.specs.declared.refusals.Refusal.TheVariants.{BadPositions, BadLinks, NoPosition}
 use Rattle.loops.specs.Pick.{either}
@@ -119,13 +119,6 @@ node_test g i = result_and (graph_test g) (holds_or (ltb i g.n) NoPosition)
 
 abbrev pub pair_test : NetworkGraph → ℕ → ℕ → Tested
 pair_test g i j = result_and (node_test g i) (node_test g j)
-
--- the numbers of these refusals, 0 for none
-abbrev pub graph_refusal : NetworkGraph → ℕ
-graph_refusal g = answer_of (graph_test g)
-
-abbrev pub position_refusal : ℕ → ℕ → ℕ
-position_refusal n i = answer_of (position_test n i)
 
 -- the row of a position
 abbrev pub row_of : NetworkGraph → ℕ → Result ℕ Refusal

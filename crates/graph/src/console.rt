@@ -1,78 +1,64 @@
 // The entries for C and for the differential runs. A graph goes over as its rows, one number for each position.
 // The answer is the refusal's number (RULES 15), 0 for none; a refused call writes nothing.
-ghost use Rattle.std.specs.Prelude.{◌≡◌, ◌≤◌, length};
+ghost use Rattle.std.specs.Prelude.{◌≡◌, length, Ok};
 ghost use Rattle.std.proofs.lemmas.List.Edits.{sets};
-ghost use Rattle.limits.specs.Limits.{positions};
-ghost use Rattle.limits.specs.Refusals.{answer_of, after};
+ghost use Rattle.limits.specs.Refusals.{answer_of, after, and_then};
 ghost use Rattle.graph.specs.Console.{room64, built_told, neighbors_told, diameter_told, link_told, path_told, flag};
 
-use super::network::{NeighborList, NetworkGraph};
-use limits::refusals::Refusal;
+use super::network::NetworkGraph;
+use limits::refusals::{Refusal, answer};
 
-// The first 64 numbers of what is lent become these.
+// The first 64 numbers of what is lent become these: one for each position that there may be.
 #[tactic(auto, using(crate::proofs::Entries::stored))]
-fn put_all(out: &mut [u64], values: &[u64; limits::POSITIONS])
-    requires { positions ≤ length out.old }
-    ensures { out.new ≡ sets out.old 0 values.now }
+fn store(out: &mut [u64], values: &[u64; limits::POSITIONS]) -> Result<(), Refusal>
+    ensures told { result ≡ room64 (length out.old) }
+    ensures out_after { out.new ≡ after (room64 (length out.old)) (λ _. sets out.old 0 values.now) out.old }
 {
-    out[..limits::POSITIONS].copy_from_slice(values);
-}
-
-// A buffer that is to take a number for each position that there may be.
-fn check_room(len: usize) -> Result<(), Refusal>
-    ensures { result ≡ room64 len }
-{
-    if len < limits::POSITIONS {
+    let Some(front) = out.first_chunk_mut::<64>() else {
         return Err(Refusal::NoFit);
-    }
+    };
+    *front = *values;
     Ok(())
 }
 
-fn build(topology: u64, n: usize, argument: usize, room: usize) -> Result<NetworkGraph, Refusal>
-    ensures { result ≡ built_told topology n argument room }
+fn build(topology: u64, n: usize, argument: usize, rows: &mut [u64]) -> Result<(), Refusal>
+    ensures told { result ≡ and_then (built_told topology n argument (length rows.old)) (λ _. Ok tt) }
+    ensures rows_after { rows.new ≡ after (built_told topology n argument (length rows.old)) (λ g. sets rows.old 0 g.adj) rows.old }
 {
     let graph = NetworkGraph::from_topology(topology, n, argument)?;
-    check_room(room)?;
-    Ok(graph)
+    store(rows, &graph.adj)
 }
 
 // The rows of a topology with its number in RULES 2.2: 64 of them, empty behind the positions. 2, 3; 10 if fewer fit.
-#[tactic(auto, using(crate::proofs::Entries::roomy))]
 #[unsafe(no_mangle)]
 pub extern "C" fn graph_build(topology: u64, n: usize, argument: usize, rows: &mut [u64]) -> u64
     ensures value { result ≡ answer_of (built_told topology n argument (length rows.old)) }
     ensures rows_after { rows.new ≡ after (built_told topology n argument (length rows.old)) (λ g. sets rows.old 0 g.adj) rows.old }
 {
-    match build(topology, n, argument, rows.len()) {
-        Ok(graph) => {
-            put_all(rows, &graph.adj);
-            0
-        }
-        Err(refusal) => refusal.into(),
-    }
+    answer(build(topology, n, argument, rows))
 }
 
-fn neighbors(rows: &[u64], i: usize, room: usize) -> Result<NeighborList, Refusal>
-    ensures { result ≡ neighbors_told rows.now i room }
+// How many neighbours there are.
+fn neighbors(rows: &[u64], i: usize, out: &mut [u64]) -> Result<usize, Refusal>
+    ensures told { result ≡ and_then (neighbors_told rows.now i (length out.old)) (λ l. Ok l.count) }
+    ensures out_after { out.new ≡ after (neighbors_told rows.now i (length out.old)) (λ l. sets out.old 0 l.at) out.old }
 {
     let list = NetworkGraph::from_rows(rows)?.neighbors(i)?;
-    check_room(room)?;
-    Ok(list)
+    store(out, &list.at)?;
+    Ok(list.count)
 }
 
 // Who hears i, in rising order, with zeros behind them up to 64, and how many they are. 2, 3, 8; 10 if fewer than 64
 // fit.
-#[tactic(auto, using(crate::proofs::Entries::roomy))]
 #[unsafe(no_mangle)]
 pub extern "C" fn graph_neighbors(rows: &[u64], i: usize, out: &mut [u64], count: &mut usize) -> u64
     ensures value { result ≡ answer_of (neighbors_told rows.now i (length out.old)) }
     ensures out_after { out.new ≡ after (neighbors_told rows.now i (length out.old)) (λ l. sets out.old 0 l.at) out.old }
     ensures count_after { count.new ≡ after (neighbors_told rows.now i (length out.old)) (λ l. l.count) count.old }
 {
-    match neighbors(rows, i, out.len()) {
-        Ok(list) => {
-            put_all(out, &list.at);
-            *count = list.count;
+    match neighbors(rows, i, out) {
+        Ok(found) => {
+            *count = found;
             0
         }
         Err(refusal) => refusal.into(),

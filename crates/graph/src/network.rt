@@ -63,6 +63,7 @@ fn closes(n: usize, i: usize, j: usize) -> bool
     j == 0
 }
 
+#[tactic(auto, unfolding(crate::specs::Links::ring_rule, crate::specs::Links::next_rule))]
 fn ring_ahead(n: usize, i: usize, j: usize) -> bool
     ensures { result ≡ ring_rule n i j }
 {
@@ -80,6 +81,7 @@ fn same_row(cols: usize, i: usize, j: usize) -> bool
     i / cols == j / cols
 }
 
+#[tactic(auto, using(crate::proofs::Rules::grid_below, crate::proofs::Rules::grid_zero, crate::proofs::Rules::grid_apart, crate::proofs::Rules::grid_row))]
 fn grid_ahead(cols: usize, i: usize, j: usize) -> bool
     ensures { result ≡ grid_rule cols i j }
 {
@@ -97,6 +99,7 @@ fn grid_ahead(cols: usize, i: usize, j: usize) -> bool
 
 // j is a child of i in a tree in which each has up to b children. The quotient stands for the product, which could
 // wrap.
+#[tactic(auto, using(crate::proofs::Rules::tree_none, crate::proofs::Rules::tree_root, crate::proofs::Rules::tree_child))]
 fn tree_ahead(b: usize, i: usize, j: usize) -> bool
     ensures { result ≡ tree_rule b i j }
 {
@@ -110,6 +113,7 @@ fn tree_ahead(b: usize, i: usize, j: usize) -> bool
 }
 
 // The rule of a shape, in one direction.
+#[tactic(auto, unfolding(crate::specs::Links::ahead_of, crate::specs::Links::mesh_rule, crate::specs::Links::next_rule))]
 fn ahead(t: Topology, n: usize, i: usize, j: usize) -> bool
     ensures { result ≡ ahead_of t n i j }
 {
@@ -122,6 +126,7 @@ fn ahead(t: Topology, n: usize, i: usize, j: usize) -> bool
     }
 }
 
+#[tactic(auto, unfolding(crate::specs::Links::link_of))]
 fn has_pair(t: Topology, n: usize, i: usize, j: usize) -> bool
     ensures { result ≡ link_of t n i j }
 {
@@ -131,39 +136,21 @@ fn has_pair(t: Topology, n: usize, i: usize, j: usize) -> bool
     ahead(t, n, j, i)
 }
 
-// m, with mark i if so told.
-fn mark_if(m: u64, i: usize, yes: bool) -> u64
-    ensures { (j : ℕ) → has result j ≡ (has m j || (yes && (ltb j 64 && eqb j i))) }
-{
-    if yes {
-        return sets::with_mark(m, i);
-    }
-    m
-}
-
+// The marks of those of n that i has a link to.
 fn row_by(t: Topology, n: usize, i: usize) -> u64
-    requires { n ≤ positions }
-    ensures { result ≡ marks n (link_of t n i) }
+    ensures { (j : ℕ) → has result j ≡ ((ltb j n && ltb j 64) && link_of t n i j) }
 {
     let mut m: u64 = 0;
     for j in 0..n {
-        m = mark_if(m, j, has_pair(t, n, i, j));
+        if has_pair(t, n, i, j) {
+            m = sets::with_mark(m, j);
+        }
     }
     m
 }
 
-fn graph_by(t: Topology, n: usize) -> NetworkGraph
-    requires { n ≤ positions }
-    ensures { result ≡ graph_by n (link_of t n) }
-{
-    let mut adj = [0u64; limits::POSITIONS];
-    for i in 0..n {
-        adj[i] = row_by(t, n, i);
-    }
-    NetworkGraph { n, adj }
-}
-
 // 1 to 64 positions.
+#[tactic(auto, using(crate::proofs::Answers::refused_none, crate::proofs::Answers::refused_many, crate::proofs::Answers::accepted_size))]
 pub fn check_size(n: usize) -> Result<(), Refusal>
     ensures { result ≡ size_test n }
 {
@@ -181,37 +168,32 @@ fn build(t: Topology, n: usize) -> Result<NetworkGraph, Refusal>
     ensures { result ≡ built_of n (link_of t n) }
 {
     check_size(n)?;
-    Ok(graph_by(t, n))
+    let mut adj = [0u64; limits::POSITIONS];
+    for i in 0..n {
+        adj[i] = row_by(t, n, i);
+    }
+    Ok(NetworkGraph { n, adj })
 }
 
 // Every mark of the row is below n.
+#[tactic(auto, using(crate::proofs::Rules::inside_is))]
 fn row_inside(row: u64, n: usize) -> bool
     ensures { result ≡ inside n row }
 {
     sets::difference(row, sets::first_marks(n)) == 0
 }
 
-// Whether the first n rows have no mark at n or above.
-fn check_rows(rows: &[u64], n: usize) -> Result<(), Refusal>
-    requires { n ≤ length rows.now }
-    ensures { result ≡ all_inside n rows.now }
+// Whether no row has a mark behind the last of them.
+#[tactic(auto, using(marks::specs::Sets::all_none, marks::specs::Sets::all_more, marks::specs::Sets::all_done), unfolding(crate::specs::Links::all_inside))]
+fn check_rows(rows: &[u64]) -> Result<(), Refusal>
+    ensures { result ≡ all_inside (length rows.now) rows.now }
 {
-    for i in 0..n {
-        if !row_inside(rows[i], n) {
+    for &row in rows {
+        if !row_inside(row, rows.len()) {
             return Err(Refusal::BadLinks);
         }
     }
     Ok(())
-}
-
-fn copy_rows(rows: &[u64]) -> NetworkGraph
-    requires { length rows.now ≤ positions }
-    ensures { result ≡ record { n = length rows.now; adj = filled 0 64 (length rows.now) (λ i. get_or rows.now i 0) } }
-{
-    let n = rows.len();
-    let mut adj = [0u64; limits::POSITIONS];
-    adj[..n].copy_from_slice(rows);
-    NetworkGraph { n, adj }
 }
 
 fn plain(t: Topology, n: usize, argument: usize) -> Result<NetworkGraph, Refusal>
@@ -223,18 +205,8 @@ fn plain(t: Topology, n: usize, argument: usize) -> Result<NetworkGraph, Refusal
     build(t, n)
 }
 
-impl NeighborList {
-    // j behind the entries.
-    fn push(&mut self, j: usize)
-        requires { self.old.count < 64 }
-        ensures { self.new ≡ record { count = self.old.count + 1; at = set self.old.at self.old.count j } }
-    {
-        self.at[self.count] = j as u64;
-        self.count += 1;
-    }
-}
-
 // The marks of a word in rising order.
+#[tactic(auto, using(crate::proofs::Rules::list_none, crate::proofs::Rules::list_room, crate::proofs::Rules::list_more, crate::proofs::Rules::list_same))]
 fn list_marks(m: u64) -> NeighborList
     ensures { result ≡ list_of m 64 }
 {
@@ -244,7 +216,8 @@ fn list_marks(m: u64) -> NeighborList
     };
     for j in 0..limits::POSITIONS {
         if sets::is_marked(m, j) {
-            list.push(j);
+            list.at[list.count] = j as u64;
+            list.count += 1;
         }
     }
     list
@@ -270,67 +243,18 @@ fn spread(adj: &[u64; 64], front: u64) -> u64
     out
 }
 
-fn last_step(front: u64, links: usize, k: usize) -> usize
-    requires { k < positions }
-    ensures { result ≡ either (eqb front 0) links (k + 1) }
-{
-    if front == 0 {
-        return links;
-    }
-    k + 1
-}
-
-// Step k + 1 of a wave.
-fn wave_step(adj: &[u64; 64], w: Wave, k: usize) -> Wave
-    requires { k < positions }
-    ensures { result ≡ step_of adj.now k w }
+// A step of a wave, with its number.
+fn wave_step(adj: &[u64; 64], w: Wave, step: usize) -> Wave
+    ensures { (k : ℕ) → step ≡ k + 1 → result ≡ step_of adj.now k w }
 {
     let front = sets::intersection(spread(adj, w.front), w.unseen);
     let unseen = sets::difference(w.unseen, front);
-    let links = last_step(front, w.links, k);
+    let links = if front == 0 { w.links } else { step };
     Wave {
         front,
         unseen,
         links,
     }
-}
-
-// The wave after so many steps. Behind an empty front it does not change any more, so the walk ends there.
-fn wave_from(adj: &[u64; 64], n: usize, start: usize, steps: usize) -> Wave
-    requires { (n ≤ positions) × (start < n) × (steps ≤ n) }
-    ensures { result ≡ wave_of (record { n = n; adj = adj.now }) start steps }
-{
-    let mut w = Wave {
-        front: sets::with_mark(0, start),
-        unseen: sets::without_mark(sets::first_marks(n), start),
-        links: 0,
-    };
-    for k in 0..steps {
-        if w.front == 0 {
-            return w;
-        }
-        w = wave_step(adj, w, k);
-    }
-    w
-}
-
-fn longest_path(adj: &[u64; 64], n: usize) -> usize
-    requires { n ≤ positions }
-    ensures { result ≡ diameter_of (record { n = n; adj = adj.now }) }
-{
-    let mut d: usize = 0;
-    for i in 0..n {
-        d = d.max(wave_from(adj, n, i, n).links);
-    }
-    d
-}
-
-// Whether a path leads from i to j.
-fn joined(adj: &[u64; 64], n: usize, i: usize, j: usize) -> bool
-    requires { (n ≤ positions) × (i < n) × (j < n) }
-    ensures { result ≡ has (reached (record { n = n; adj = adj.now }) i n) j }
-{
-    !sets::is_marked(wave_from(adj, n, i, n).unseen, j)
 }
 
 impl NetworkGraph {
@@ -376,7 +300,8 @@ impl NetworkGraph {
         build(Topology::Tree(branching_factor), n)
     }
 
-    // The topology with this number (RULES 2.2), for n positions.
+    // The topology with this number (RULES 2.2), for n positions. C and frames name it by a number and one argument, so
+    // the match below is where these become a `Topology`: nobody has one at hand.
     #[tactic(auto, unfolding(crate::specs::Links::topology_of))]
     pub fn from_topology(topology: u64, n: usize, argument: usize) -> Result<NetworkGraph, Refusal>
         ensures { result ≡ topology_of topology n argument }
@@ -398,17 +323,19 @@ impl NetworkGraph {
         ensures { result ≡ rows_of rows.now }
     {
         check_size(rows.len())?;
-        check_rows(rows, rows.len())?;
-        Ok(copy_rows(rows))
+        check_rows(rows)?;
+        let mut adj = [0u64; limits::POSITIONS];
+        adj[..rows.len()].copy_from_slice(rows);
+        Ok(NetworkGraph { n: rows.len(), adj })
     }
 
     // What is wrong with a graph that somebody put together: 2 and 3.
-    #[tactic(auto, using(crate::proofs::Rules::size_parts), unfolding(crate::specs::Links::graph_test))]
+    #[tactic(auto, using(crate::proofs::Rules::size_parts, crate::proofs::Rules::rows_front), unfolding(crate::specs::Links::graph_test))]
     pub fn check(&self) -> Result<(), Refusal>
         ensures { result ≡ graph_test self.now }
     {
         check_size(self.n)?;
-        check_rows(&self.adj, self.n)
+        check_rows(&self.adj[..self.n])
     }
 
     // Refusals 2, 3 and 8 of a call on position i.
@@ -463,13 +390,34 @@ impl NetworkGraph {
         Ok(sets::is_marked(self.adj[i], j))
     }
 
+    // The wave from a position after so many steps. Behind an empty front it does not change any more, so the walk ends
+    // there. A graph's fields are open, so a bound on n is no fact of its type, and clauses say what is asked: the two
+    // calls that come here have tested the graph once, and `diameter` asks for n waves.
+    fn wave_from(&self, start: usize, steps: usize) -> Wave
+        requires { (self.now.n ≤ positions) × (start < self.now.n) × (steps ≤ self.now.n) }
+        ensures { result ≡ wave_of self.now start steps }
+    {
+        let mut w = Wave {
+            front: sets::with_mark(0, start),
+            unseen: sets::without_mark(sets::first_marks(self.n), start),
+            links: 0,
+        };
+        for k in 0..steps {
+            if w.front == 0 {
+                return w;
+            }
+            w = wave_step(&self.adj, w, k + 1);
+        }
+        w
+    }
+
     // Whether what i sends can come to j, by however many links.
     #[tactic(auto, using(crate::proofs::Rules::node_parts))]
     pub fn reaches(&self, i: usize, j: usize) -> Result<bool, Refusal>
         ensures { result ≡ reaches_of self.now i j }
     {
         self.check_pair(i, j)?;
-        Ok(joined(&self.adj, self.n, i, j))
+        Ok(!sets::is_marked(self.wave_from(i, self.n).unseen, j))
     }
 
     // The longest shortest path over all ordered pairs that a path joins.
@@ -479,6 +427,10 @@ impl NetworkGraph {
         ensures longest { IfOk result (Longest self.now) }
     {
         self.check()?;
-        Ok(longest_path(&self.adj, self.n))
+        let mut d: usize = 0;
+        for i in 0..self.n {
+            d = d.max(self.wave_from(i, self.n).links);
+        }
+        Ok(d)
     }
 }

@@ -13,6 +13,7 @@ pub fn is_marked(m: u64, i: usize) -> bool
     (m >> i) % 2 == 1
 }
 
+#[tactic(auto, using(marks::specs::Sets::with_near))]
 pub fn with_mark(m: u64, i: usize) -> u64
     ensures { (j : ℕ) → has result j ≡ (has m j || (ltb j 64 && eqb j i)) }
 {
@@ -22,6 +23,7 @@ pub fn with_mark(m: u64, i: usize) -> u64
     m | (1 << i)
 }
 
+#[tactic(auto, using(marks::specs::Sets::without_far, marks::specs::Sets::without_near))]
 pub fn without_mark(m: u64, i: usize) -> u64
     ensures { (j : ℕ) → has result j ≡ (has m j && not (eqb j i)) }
 {
@@ -31,12 +33,14 @@ pub fn without_mark(m: u64, i: usize) -> u64
     m ^ (m & (1 << i))
 }
 
+#[tactic(auto, using(marks::specs::Laws::has_or))]
 pub fn union(a: u64, b: u64) -> u64
     ensures { (j : ℕ) → has result j ≡ (has a j || has b j) }
 {
     a | b
 }
 
+#[tactic(auto, using(marks::specs::Laws::has_and))]
 pub fn intersection(a: u64, b: u64) -> u64
     ensures { (j : ℕ) → has result j ≡ (has a j && has b j) }
 {
@@ -44,6 +48,7 @@ pub fn intersection(a: u64, b: u64) -> u64
 }
 
 // The marks of a that b has not.
+#[tactic(auto, using(marks::specs::Laws::has_minus))]
 pub fn difference(a: u64, b: u64) -> u64
     ensures { (j : ℕ) → has result j ≡ (has a j && not (has b j)) }
 {
@@ -51,6 +56,7 @@ pub fn difference(a: u64, b: u64) -> u64
 }
 
 // The set of the first n marks; of all 64 where n is larger.
+#[tactic(auto, using(marks::specs::Sets::below_all, marks::specs::Sets::below_few))]
 pub fn first_marks(n: usize) -> u64
     ensures { (j : ℕ) → has result j ≡ (ltb j n && ltb j 64) }
 {
@@ -70,6 +76,7 @@ pub fn all_marked(m: u64, n: usize) -> bool
     difference(first_marks(n), m) == 0
 }
 
+#[tactic(auto, using(marks::specs::Sets::ones_count))]
 pub fn count_marks(m: u64) -> usize
     ensures { result ≡ count_of m 64 }
 {
@@ -77,6 +84,7 @@ pub fn count_marks(m: u64) -> usize
 }
 
 // The lowest mark, or 64 where there is none.
+#[tactic(auto, using(marks::specs::Sets::zeros_lowest))]
 pub fn lowest_mark(m: u64) -> usize
     ensures { Lowest m result }
 {

@@ -1,7 +1,7 @@
 -- What it means that a test, or one behind another, refuses nothing. Assumes nothing.
-use Rattle.std.proofs.Common.{◌≡◌, ◌<◌, refl, arith, ℕ, Bool, true, false, Result, Ok, Err}
-use Rattle.std.specs.Result.{result_and}
-use Rattle.limits.specs.Refusals.{Tested, holds_or, number_of, answer_of}
+use Rattle.std.proofs.Common.{◌≡◌, ◌<◌, refl, arith, ℕ, Bool, true, false, Result, Ok, Err, sym, true≢false}
+use Rattle.std.specs.Result.{result_and, is_ok}
+use Rattle.limits.specs.Refusals.{Tested, holds_or, number_of}
 use Rattle.limits.specs.declared.refusals.Refusal.{Refusal}
 use Rattle.limits.specs.declared.refusals.Refusal.TheVariants.{BadLine, BadPositions, BadLinks, BadLoss, NoRepeats}
 use Rattle.limits.specs.declared.refusals.Refusal.TheVariants.{NoInterval, ManyTransactions, NoPosition, BadPacket}
@@ -15,6 +15,11 @@ pub held : (b : Bool) (refusal : Refusal) → holds_or b refusal ≡ Ok tt → b
 held true refusal e = refl
 held false refusal e = no_err e
 
+-- a test that says yes refuses nothing
+pub ok_told : (t : Tested) → is_ok t ≡ true → t ≡ Ok tt
+ok_told (Ok x) e = refl
+ok_told (Err refusal) e = absurd (true≢false (sym e))
+
 pub first_held : {A : Type 0} (r : Tested) (s : Result A Refusal) (a : A) → result_and r s ≡ Ok a → r ≡ Ok tt
 first_held (Ok x) s a e = refl
 first_held (Err refusal) s a e = no_err e
@@ -24,7 +29,7 @@ second_held (Ok x) s a e = e
 second_held (Err refusal) s a e = no_err e
 
 -- a test that tells 0 refuses nothing: no refusal has the number 0
-number_some : (refusal : Refusal) → 0 < number_of refusal
+pub number_some : (refusal : Refusal) → 0 < number_of refusal
 number_some BadLine = omega arith
 number_some BadPositions = omega arith
 number_some BadLinks = omega arith
@@ -42,7 +47,3 @@ number_some Stopped = omega arith
 number_some TooLong = omega arith
 number_some WordsShort = omega arith
 number_some RowsShort = omega arith
-
-pub unrefused : (t : Tested) → answer_of t ≡ 0 → t ≡ Ok tt
-unrefused (Ok x) e = refl
-unrefused (Err refusal) e = absurd (let h = number_some refusal in omega arith)

@@ -7,11 +7,11 @@ use native.Mathlib.Decide.{dec_lt}
 use native.Mathlib.Omega.{arith}
 use lib.ListN.{length, take, drop, get_or, length-drop}
 use lib.Seq.{get_or-drop, get_or-take, length-take-le}
-use borrow.Author.Tests.{ltb-false, eq-eqb, eqb-true, eqb-false, not-true, both_ways}
+use borrow.Author.Tests.{ltb-false, lt-ltb, le-ltb, eq-eqb, ne_eqb, eqb-true, eqb-false, not-true, both_ways}
 use Rattle.std.specs.Prelude.{Some, None, nat_lt}
 use Rattle.std.specs.List.{position, position_or_len}
 use Rattle.std.proofs.lemmas.List.Quantifiers.{position-Some}
-use Rattle.std.proofs.lemmas.List.Sums.{fails_before_first}
+use Rattle.std.proofs.lemmas.List.Sums.{fails_before_first, position_or_len_is}
 use Rattle.marks.specs.Sets.{and_true}
 use Rattle.lines.specs.Ends.{Unbroken, NextEnd}
 use Rattle.lines.specs.Feeding.{ends_line}
@@ -87,3 +87,14 @@ unbroken_part text a b h l u k m n e =
 -- a search from a place up to which no line ends
 pub from_there : (text : List ℕ) (at i : ℕ) {e : ℕ} → at ≤ i → Unbroken text at i → NextEnd text i e → NextEnd text at e
 from_there text at i {e} h u n = record { from = omega (arith, n.from); within = n.within; before = unbroken_on text at i e u n.before; there = n.there }
+
+-- the same in std's word
+module _ (text : List ℕ) {e : ℕ} (n : NextEnd text 0 e) where
+  first : position_or_len ends_line text ≡ e
+  first = position_or_len_is ends_line text e 0 n.within (λ k h. ne_eqb _ _ (n.before k (omega arith) h)) (λ h. eq-eqb _ _ (n.there h))
+
+  pub found_first : e < length text → Some e ≡ position ends_line text
+  found_first h = rw (first, lt-ltb e (length text) h)
+
+  pub none_first : e ≡ length text → None ≡ position ends_line text
+  none_first h = rw (first, le-ltb e (length text) (omega arith))

@@ -1,10 +1,11 @@
 // RULES 14.2 and 14.3. Listing lines for the lines that end in what was read.
-ghost use Rattle.std.specs.Prelude.{◌≡◌, ◌+◌, ◌≤◌, length, Ok, IfOk};
-ghost use Rattle.texts.specs.Put.{Put};
-ghost use Rattle.frame.specs.Bounds.{frame_words, ended_bytes};
+ghost use Rattle.std.specs.Prelude.{◌≡◌, ◌≤◌, length, Ok, Err, IfOk};
+ghost use Rattle.limits.specs.declared.refusals.Refusal.TheVariants.{NoFit};
+ghost use Rattle.loops.specs.Pick.{either};
+ghost use Rattle.texts.specs.Put.{written};
 ghost use Rattle.frame.specs.Listing.{words_in};
-ghost use Rattle.lines.specs.Input.{ended_of, listed_lines, last_of};
-ghost use Rattle.lines.specs.Feeding.{Feeds, words_behind, kept_from, kept_in, end_of, end_words, end_out};
+ghost use Rattle.lines.specs.Input.{ended_of};
+ghost use Rattle.lines.specs.Feeding.{Feeds, ends, kept_from, kept_in, end_of, end_words, end_out};
 
 use crate::search;
 use frame::{bounds, listing};
@@ -19,47 +20,25 @@ pub struct Fed {
     pub used: usize,
 }
 
-// A line's answer and its end, behind what is there.
-fn put_line(line: &[u8], words: &mut [u64], out: &mut [u8], used: usize) -> usize
-    requires { (frame_words ≤ length words.old) × (used + ended_bytes ≤ length out.old) }
-    ensures { Put out.old used (ended_of line.now) result out.new × (result ≤ length out.old) × (words.new ≡ words_in line.now words.old) }
+// A line's answer and its end, if there is room for the longest.
+fn put_line(line: &[u8], words: &mut [u64], out: &mut [u8]) -> Result<usize, Refusal>
+    ensures told { result ≡ either (ends (length words.old) (length out.old)) (Ok (length (ended_of line.now))) (Err NoFit) }
+    ensures room { IfOk result (λ len. len ≤ length out.old) }
+    ensures words_after { words.new ≡ either (ends (length words.old) (length out.old)) (words_in line.now words.old) words.old }
+    ensures out_after { out.new ≡ either (ends (length words.old) (length out.old)) (written out.old 0 (ended_of line.now)) out.old }
 {
-    let end = used + listing::list_frame(line, words, &mut out[used..]).unwrap();
+    if out.len() < bounds::ENDED {
+        return Err(Refusal::NoFit);
+    }
+    let end = listing::list_frame(line, words, out)?;
     out[end] = b'\n';
-    end + 1
-}
-
-// The lines of a text, as long as there is room for the longest answer. A `while`: a turn goes on behind the end that
-// was found, so no range says where it goes.
-fn feed_lines(text: &[u8], n: usize, words: &mut [u64], out: &mut [u8], used: usize) -> Fed
-    requires { (n ≤ length text.now) × (frame_words ≤ length words.old) × (used ≤ length out.old) }
-    ensures { Feeds text.now n words.old out.old used (Ok result) words.new out.new }
-{
-    let mut from: usize = 0;
-    let mut at = n;
-    let mut o = used;
-    while let Some(end) = search::line_end(text, at) {
-        if out.len() - o < bounds::ENDED {
-            return Fed {
-                from,
-                at: end,
-                used: o,
-            };
-        }
-        o = put_line(&text[from..end], words, out, o);
-        from = end + 1;
-        at = from;
-    }
-    Fed {
-        from,
-        at: text.len(),
-        used: o,
-    }
+    Ok(end + 1)
 }
 
 // The lines that end in the text, whose first n bytes are a line so far in which no line ends. Their answers are put
-// behind the first `used` bytes of the output. Words and output are lent apart: who calls reads the output between
-// calls, so a struct of the two loans would be made anew for each.
+// behind the first `used` bytes of the output, as long as there is room for the longest. Words and output are lent
+// apart: who calls reads the output between calls, so a struct of the two loans would be made anew for each. A `while`:
+// a turn goes on behind the end that was found, so no range says where it goes.
 pub fn feed(
     text: &[u8],
     n: usize,
@@ -72,7 +51,28 @@ pub fn feed(
     if text.len() < n || words.len() < bounds::WORDS || out.len() < used {
         return Err(Refusal::NoFit);
     }
-    Ok(feed_lines(text, n, words, out, used))
+    let mut from: usize = 0;
+    let mut at = n;
+    let mut o = used;
+    while let Some(ahead) = search::line_end(&text[at..]) {
+        let end = at + ahead;
+        // The words were tested, so a refusal says that the output is full.
+        let Ok(len) = put_line(&text[from..end], words, &mut out[o..]) else {
+            return Ok(Fed {
+                from,
+                at: end,
+                used: o,
+            });
+        };
+        o += len;
+        from = end + 1;
+        at = from;
+    }
+    Ok(Fed {
+        from,
+        at: text.len(),
+        used: o,
+    })
 }
 
 // ---- between reads
@@ -91,16 +91,6 @@ pub fn keep(text: &mut [u8], from: usize) -> usize
 
 // ---- behind the last read
 
-fn list_last(line: &[u8], words: &mut [u64], out: &mut [u8]) -> usize
-    requires { (frame_words ≤ length words.old) × (ended_bytes ≤ length out.old) }
-    ensures { Put out.old 0 (listed_lines (last_of line.now)) result out.new × (result ≤ length out.old) × (words.new ≡ words_behind (last_of line.now) words.old) }
-{
-    if line.is_empty() {
-        return 0;
-    }
-    put_line(line, words, out, 0)
-}
-
 // The answer to a last line that has no end, and its length; 0 if the line is empty.
 pub fn finish(line: &[u8], words: &mut [u64], out: &mut [u8]) -> Result<usize, Refusal>
     ensures { (result ≡ end_of line.now (length words.old) (length out.old)) × (IfOk result (λ len. len ≤ length out.old)) × (words.new ≡ end_words line.now words.old (length out.old)) × (out.new ≡ end_out line.now (length words.old) out.old) }
@@ -108,5 +98,8 @@ pub fn finish(line: &[u8], words: &mut [u64], out: &mut [u8]) -> Result<usize, R
     if words.len() < bounds::WORDS || out.len() < bounds::ENDED {
         return Err(Refusal::NoFit);
     }
-    Ok(list_last(line, words, out))
+    if line.is_empty() {
+        return Ok(0);
+    }
+    put_line(line, words, out)
 }

@@ -1,8 +1,8 @@
 // RULES 14.2. Where a line ends.
-ghost use Rattle.std.specs.Prelude.{true, ◌≡◌, ◌≤◌, ◌<◌, length, MatchOption};
+ghost use Rattle.std.specs.Prelude.{true, ◌≡◌, ◌≤◌, length};
 ghost use Rattle.std.specs.List.{position};
 ghost use Rattle.lines.specs.Feeding.{ends_line};
-ghost use Rattle.lines.specs.Ends.{Unbroken, NextEnd};
+ghost use Rattle.lines.specs.Ends.{Unbroken};
 
 // The byte that ends a line.
 const END: u8 = b'\n';
@@ -23,18 +23,17 @@ fn is_unbroken(block: &[u8]) -> bool
 }
 
 // Passes over blocks in which no line ends, since most of a long line is such blocks; the place behind them.
-fn pass_blocks(text: &[u8], at: usize) -> usize
-    requires { at ≤ length text.now }
-    ensures { (at ≤ result) × (result ≤ length text.now) × Unbroken text.now at result }
+fn pass_blocks(text: &[u8]) -> usize
+    ensures { (result ≤ length text.now) × Unbroken text.now 0 result }
 {
-    let blocks = (text.len() - at) / BLOCK;
+    let blocks = text.len() / BLOCK;
     for k in 0..blocks {
-        let from = at + BLOCK * k;
+        let from = BLOCK * k;
         if !is_unbroken(&text[from..from + BLOCK]) {
             return from;
         }
     }
-    at + BLOCK * blocks
+    BLOCK * blocks
 }
 
 // How many bytes stand before the first end of a line, if there is one.
@@ -44,12 +43,11 @@ fn first_end(text: &[u8]) -> Option<usize>
     text.iter().position(|&b| b == END)
 }
 
-// The place of the first end of a line from place at on, if there is one.
-pub(crate) fn line_end(text: &[u8], at: usize) -> Option<usize>
-    requires { at ≤ length text.now }
-    ensures { MatchOption result (NextEnd text.now at (length text.now)) (λ end. NextEnd text.now at end × (end < length text.now)) }
+// The same, block by block as far as that goes.
+pub(crate) fn line_end(text: &[u8]) -> Option<usize>
+    ensures { result ≡ position ends_line text.now }
 {
-    let from = pass_blocks(text, at);
+    let from = pass_blocks(text);
     let ahead = first_end(&text[from..])?;
     Some(from + ahead)
 }

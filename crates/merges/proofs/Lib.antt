@@ -1,4 +1,5 @@
 pub mod Bitmaps
+pub mod Phases
 pub mod Slips
 pub mod Sources
 pub mod Safety

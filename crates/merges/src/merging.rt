@@ -4,7 +4,7 @@
 ghost use Rattle.std.specs.Prelude.{◌≡◌, ℕ, ◌+◌, ◌&&◌, nat_lt, eqb};
 ghost use Rattle.marks.specs.Marks.{has, marks};
 ghost use Rattle.merges.specs.Votes.{no_of};
-ghost use Rattle.merges.specs.Merging.{entry, filled_of, marked_of, only_of, join_of, join_news, unanimous_of, rank_of, with_state, ensure_of, decided_of, acknowledged_of, voiced_of, settled, adopted_of, raised_of, own_of, same_term_of, redundant, new_info, outdated, heard_of, merge_of, blank, proposal_of, standing_of, goal_of, can_sleep_of, all_hold, any_holds, outcome_of};
+ghost use Rattle.merges.specs.Merging.{entry, filled_of, marked_of, only_of, join_of, join_news, unanimous_of, rank_of, ensure_of, decided_of, acknowledged_of, voiced_of, settled, adopted_of, raised_of, own_of, same_term_of, redundant, new_info, outdated, heard_of, merge_of, blank, proposal_of, standing_of, goal_of, can_sleep_of, all_hold, any_holds, outcome_of};
 ghost use Rattle.merges.specs.Slips.{packet_of, draft_of, whose, HeardBy};
 ghost use Rattle.merges.specs.declared.merging.Held.TheVariants.{Packet};
 ghost use Rattle.packets.specs.Packets.{proposal_data};
@@ -15,6 +15,7 @@ use crate::votes;
 use crate::votes::Voting;
 use graph::sets;
 use packets::{Bitmap, CeTwoPcPacket, Data, TwoPcPhase, two_pc_ce};
+use std::cmp::Ordering;
 
 #[derive(Clone, Copy)]
 pub enum MergeResult {
@@ -133,6 +134,7 @@ fn join_is_news(n: usize, a: Bitmap, b: Bitmap) -> bool
 }
 
 // Everybody has an entry, and no entry is false.
+#[tactic(auto, unfolding(crate::specs::Merging::unanimous_of))]
 pub fn has_unanimity(n: usize, b: Bitmap) -> bool
     ensures { result ≡ unanimous_of n b }
 {
@@ -142,89 +144,66 @@ pub fn has_unanimity(n: usize, b: Bitmap) -> bool
     sets::all_marked(b.marks, b.len)
 }
 
-// Committed outranks Prepare, and Aborted both.
-#[tactic(auto, unfolding(crate::specs::Merging::rank_of))]
-fn rank(phase: TwoPcPhase) -> u64
-    ensures { result ≡ rank_of phase }
-{
-    phase as u64
-}
-
-fn with_state(s: Slip, phase: TwoPcPhase, flags_bitmap: Bitmap) -> Slip
-    ensures { (d : ℕ → Data) → packet_of d result ≡ with_state phase flags_bitmap (packet_of d s) }
-{
-    Slip {
-        term: s.term,
-        phase,
-        source: s.source,
-        flags_bitmap,
-    }
-}
-
+#[tactic(auto, unfolding(crate::specs::Merging::ensure_of))]
 fn ensure_bitmap_len(n: usize, s: Slip) -> Slip
     ensures { (d : ℕ → Data) → packet_of d result ≡ ensure_of n (packet_of d s) }
 {
-    let phase = s.phase;
-    let b = s.flags_bitmap;
-    with_state(s, phase, filled(n, b))
+    Slip {
+        flags_bitmap: filled(n, s.flags_bitmap),
+        ..s
+    }
 }
 
-// Whoever decides starts a new bitmap, whose marks say who knows the decision.
-fn escalate_to_commit(n: usize, s: Slip, node_id: usize) -> Slip
-    ensures { (d : ℕ → Data) → packet_of d result ≡ decided_of Committed n node_id (packet_of d s) }
+// Whoever decides starts a new bitmap, whose marks say who knows the decision. The Rust has escalate_to_commit and
+// escalate_to_abort, which differ in the phase alone.
+#[tactic(auto, unfolding(crate::specs::Merging::decided_of))]
+fn escalate_to(phase: TwoPcPhase, n: usize, s: Slip, node_id: usize) -> Slip
+    ensures { (d : ℕ → Data) → packet_of d result ≡ decided_of phase n node_id (packet_of d s) }
 {
-    with_state(s, TwoPcPhase::Committed, own_mark_only(n, node_id))
-}
-
-fn escalate_to_abort(n: usize, s: Slip, node_id: usize) -> Slip
-    ensures { (d : ℕ → Data) → packet_of d result ≡ decided_of Aborted n node_id (packet_of d s) }
-{
-    with_state(s, TwoPcPhase::Aborted, own_mark_only(n, node_id))
+    Slip {
+        phase,
+        flags_bitmap: own_mark_only(n, node_id),
+        ..s
+    }
 }
 
 // The own mark, where the bitmap has an entry for it.
+#[tactic(auto, unfolding(crate::specs::Merging::acknowledged_of))]
 fn acknowledge(s: Slip, node_id: usize) -> Slip
     ensures { (d : ℕ → Data) → packet_of d result ≡ acknowledged_of node_id (packet_of d s) }
 {
-    let phase = s.phase;
-    let b = s.flags_bitmap;
-    with_state(s, phase, marked(b, node_id))
+    Slip {
+        flags_bitmap: marked(s.flags_bitmap, node_id),
+        ..s
+    }
 }
 
 // The own entry: in Prepare the vote, later that the decision is known here.
+#[tactic(auto, unfolding(crate::specs::Merging::voiced_of))]
 fn voice(voting: Voting, s: Slip, node_id: usize) -> Slip
     ensures { (d : ℕ → Data) → packet_of d result ≡ voiced_of (no_of voting) voting.n node_id (packet_of d s) s.phase }
 {
-    let k = s.phase;
-    match k {
-        TwoPcPhase::Prepare => {
-            if votes::should_abort_app(voting, s.term, node_id) {
-                return escalate_to_abort(voting.n, s, node_id);
-            }
+    match s.phase {
+        TwoPcPhase::Prepare if votes::should_abort_app(voting, s.term, node_id) => {
+            escalate_to(TwoPcPhase::Aborted, voting.n, s, node_id)
+        }
+        TwoPcPhase::Prepare | TwoPcPhase::Committed | TwoPcPhase::Aborted => {
             acknowledge(s, node_id)
         }
-        TwoPcPhase::Committed => acknowledge(s, node_id),
-        TwoPcPhase::Aborted => acknowledge(s, node_id),
     }
 }
 
 // Votes that are complete commit, also where this merge brought none of them.
+#[tactic(auto, unfolding(crate::specs::Merging::settled_of))]
 fn settle(n: usize, x: Draft, node_id: usize) -> Draft
     ensures { (d : ℕ → Data) → draft_of d result ≡ settled n node_id (draft_of d x) }
 {
-    let s = x.slip;
-    let k = s.phase;
-    let b = s.flags_bitmap;
-    match k {
-        TwoPcPhase::Prepare => {
-            if has_unanimity(n, b) {
-                let slip = escalate_to_commit(n, s, node_id);
-                return Draft { slip, news: true };
-            }
-            x
-        }
-        TwoPcPhase::Committed => x,
-        TwoPcPhase::Aborted => x,
+    match x.slip.phase {
+        TwoPcPhase::Prepare if has_unanimity(n, x.slip.flags_bitmap) => Draft {
+            slip: escalate_to(TwoPcPhase::Committed, n, x.slip, node_id),
+            news: true,
+        },
+        TwoPcPhase::Prepare | TwoPcPhase::Committed | TwoPcPhase::Aborted => x,
     }
 }
 
@@ -233,52 +212,55 @@ fn adopt_with_local_vote(voting: Voting, s: Slip, node_id: usize) -> Slip
     ensures { (d : ℕ → Data) → packet_of d result ≡ adopted_of (no_of voting) voting.n node_id (packet_of d s) }
 {
     let filled = ensure_bitmap_len(voting.n, s);
-    let slip = voice(voting, filled, node_id);
-    let x = Draft { slip, news: true };
-    let y = settle(voting.n, x, node_id);
-    let q = y.slip;
-    q
+    let x = Draft {
+        slip: voice(voting, filled, node_id),
+        news: true,
+    };
+    settle(voting.n, x, node_id).slip
 }
 
 // The phase that outranks the other stays, with its bitmap. The data never moves.
 fn raise(n: usize, l: Slip, r: Slip) -> Draft
     ensures { (d : ℕ → Data) → draft_of d result ≡ raised_of n (packet_of d l) (packet_of d r) }
 {
-    let ours = l.phase;
-    let theirs = r.phase;
     let a = l.flags_bitmap;
     let b = r.flags_bitmap;
-    let held = rank(ours);
-    let heard = rank(theirs);
-    if held < heard {
-        let slip = with_state(l, theirs, b);
-        return Draft { slip, news: true };
-    }
-    if held == heard {
-        let slip = with_state(l, ours, joined(n, a, b));
-        let news = join_is_news(n, a, b);
-        return Draft { slip, news };
-    }
-    Draft {
-        slip: l,
-        news: false,
+    match l.phase.cmp(&r.phase) {
+        Ordering::Less => Draft {
+            slip: Slip {
+                phase: r.phase,
+                flags_bitmap: b,
+                ..l
+            },
+            news: true,
+        },
+        Ordering::Equal => Draft {
+            slip: Slip {
+                flags_bitmap: joined(n, a, b),
+                ..l
+            },
+            news: join_is_news(n, a, b),
+        },
+        Ordering::Greater => Draft {
+            slip: l,
+            news: false,
+        },
     }
 }
 
 // Where the own entry is there and unmarked, this position has yet to speak.
+#[tactic(auto, unfolding(crate::specs::Merging::own_of))]
 fn own(voting: Voting, x: Draft, node_id: usize) -> Draft
     ensures { (d : ℕ → Data) → draft_of d result ≡ own_of (no_of voting) voting.n node_id (draft_of d x) }
 {
-    let s = x.slip;
-    let b = s.flags_bitmap;
-    if node_id >= b.len {
+    let b = x.slip.flags_bitmap;
+    if node_id >= b.len || sets::is_marked(b.marks, node_id) {
         return x;
     }
-    if sets::is_marked(b.marks, node_id) {
-        return x;
+    Draft {
+        slip: voice(voting, x.slip, node_id),
+        news: true,
     }
-    let slip = voice(voting, s, node_id);
-    Draft { slip, news: true }
 }
 
 // Both bitmaps are filled before either is used.
@@ -293,6 +275,7 @@ fn merge_same_term(voting: Voting, l: Slip, r: Slip, node_id: usize) -> Draft
 }
 
 // What is left of an earlier proposal must not count for this one.
+#[tactic(auto, unfolding(crate::specs::Merging::outdated))]
 fn is_outdated(term: u64, held: u64) -> bool
     ensures { result ≡ outdated term held }
 {
@@ -325,6 +308,7 @@ fn hear_packet(voting: Voting, local: Slip, received: Slip, node_id: usize) -> D
 
 // What position node_id makes of a packet, by what it holds: an empty one takes it. What is no news leaves the local
 // as it came, a short bitmap too.
+#[tactic(auto, unfolding(crate::specs::Merging::heard_of))]
 pub fn hear(voting: Voting, held: Held, local: Slip, received: Slip, node_id: usize) -> Draft
     ensures { HeardBy (no_of voting) voting.n node_id held local received result }
 {
@@ -364,30 +348,29 @@ fn new_info(packet: CeTwoPcPacket) -> Merged
     }
 }
 
-// A packet leaves its data behind, under the number `source`.
-fn without_data(p: CeTwoPcPacket, source: u64) -> Slip
-    ensures { (d : ℕ → Data) → d source ≡ p.proposal_data → packet_of d result ≡ p }
-{
-    let phase = p.phase;
-    let flags_bitmap = p.flags_bitmap;
-    Slip {
-        term: p.term,
-        phase,
-        source,
-        flags_bitmap,
+impl Slip {
+    // The slip of a packet, which leaves its data behind, under the number `source`.
+    fn of(p: CeTwoPcPacket, source: u64) -> Slip
+        ensures { (d : ℕ → Data) → d source ≡ p.proposal_data → packet_of d result ≡ p }
+    {
+        Slip {
+            term: p.term,
+            phase: p.phase,
+            source,
+            flags_bitmap: p.flags_bitmap,
+        }
     }
-}
 
-fn with_data(s: Slip, proposal_data: Data) -> CeTwoPcPacket
-    ensures { result ≡ packet_of (λ _. proposal_data) s }
-{
-    let phase = s.phase;
-    let flags_bitmap = s.flags_bitmap;
-    CeTwoPcPacket {
-        term: s.term,
-        phase,
-        proposal_data,
-        flags_bitmap,
+    // A packet again.
+    fn with_data(self, proposal_data: Data) -> CeTwoPcPacket
+        ensures { result ≡ packet_of (λ _. proposal_data) self }
+    {
+        CeTwoPcPacket {
+            term: self.term,
+            phase: self.phase,
+            proposal_data,
+            flags_bitmap: self.flags_bitmap,
+        }
     }
 }
 
@@ -401,34 +384,23 @@ fn data_of(source: u64, ours: Data, theirs: Data) -> Data
 fn merge_packet(voting: Voting, local: Payload, p: CeTwoPcPacket, node_id: usize) -> Merged
     ensures { result ≡ heard_of (no_of voting) voting.n node_id local p local.held }
 {
-    let held = local.held;
     let l = local.packet;
-    let x = hear(
-        voting,
-        held,
-        without_data(l, 0),
-        without_data(p, 1),
-        node_id,
-    );
+    let x = hear(voting, local.held, Slip::of(l, 0), Slip::of(p, 1), node_id);
     if !x.news {
         return redundant_merge(local);
     }
-    let s = x.slip;
-    let ours = l.proposal_data;
-    let theirs = p.proposal_data;
-    new_info(with_data(s, data_of(s.source, ours, theirs)))
+    let data = data_of(x.slip.source, l.proposal_data, p.proposal_data);
+    new_info(x.slip.with_data(data))
 }
 
 // What position node_id holds after a received payload, and whether that was news.
+#[tactic(auto, unfolding(crate::specs::Merging::merge_of, crate::specs::Merging::merged_by))]
 pub fn merge(voting: Voting, local: Payload, received: Payload, node_id: usize) -> Merged
     ensures { result ≡ merge_of (no_of voting) voting.n node_id local received }
 {
-    let k = received.held;
-    let p = received.packet;
-    match k {
-        Held::Empty => redundant_merge(local),
-        Held::Unreadable => redundant_merge(local),
-        Held::Packet => merge_packet(voting, local, p, node_id),
+    match received.held {
+        Held::Empty | Held::Unreadable => redundant_merge(local),
+        Held::Packet => merge_packet(voting, local, received.packet, node_id),
     }
 }
 
@@ -436,12 +408,11 @@ pub fn merge(voting: Voting, local: Payload, received: Payload, node_id: usize) 
 fn blank_slip(n: usize, term: u64) -> Slip
     ensures { (d : ℕ → Data) → d 0 ≡ proposal_data term → packet_of d result ≡ blank n term }
 {
-    let flags_bitmap = Bitmap { len: n, marks: 0 };
     Slip {
         term,
         phase: TwoPcPhase::Prepare,
         source: 0,
-        flags_bitmap,
+        flags_bitmap: Bitmap { len: n, marks: 0 },
     }
 }
 
@@ -452,7 +423,7 @@ pub fn init_proposal(voting: Voting, term: u64, initiator: usize) -> CeTwoPcPack
 {
     let next = term.wrapping_add(1);
     let s = adopt_with_local_vote(voting, blank_slip(voting.n, next), initiator);
-    with_data(s, two_pc_ce::proposal_data(next))
+    s.with_data(two_pc_ce::proposal_data(next))
 }
 
 // A packet of this phase is held.
@@ -461,7 +432,7 @@ fn holds(payload: &Payload, phase: TwoPcPhase) -> bool
     ensures { result ≡ eqb (standing_of payload.now) (rank_of phase + 1) }
 {
     match payload.held {
-        Held::Packet => rank(payload.packet.phase) == rank(phase),
+        Held::Packet => payload.packet.phase == phase,
         Held::Empty => false,
         Held::Unreadable => false,
     }
@@ -480,10 +451,7 @@ pub fn node_goal_reached(payload: Payload) -> bool
 pub fn node_can_sleep(n: usize, payload: Payload) -> bool
     ensures { result ≡ can_sleep_of n payload }
 {
-    if !node_goal_reached(payload) {
-        return false;
-    }
-    has_unanimity(n, payload.packet.flags_bitmap)
+    node_goal_reached(payload) && has_unanimity(n, payload.packet.flags_bitmap)
 }
 
 // Every one of the first n positions holds a packet of this phase, and there is one at least.
@@ -520,6 +488,7 @@ fn any_holds(payloads: &[Payload; 64], n: usize, phase: TwoPcPhase) -> bool
 }
 
 // An abort at one position is an abort, whatever the others hold; what not everybody has committed by then timed out.
+#[tactic(auto, unfolding(crate::specs::Merging::outcome_of, crate::specs::Merging::rank_of))]
 pub fn proposal_outcome(payloads: [Payload; 64], n: usize) -> ProposalOutcome
     ensures { result ≡ outcome_of n payloads }
 {

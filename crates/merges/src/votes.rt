@@ -11,6 +11,7 @@ pub struct Voting {
     pub seed: u64,
 }
 
+#[tactic(auto, unfolding(crate::specs::Votes::hash_of))]
 fn vote_hash(term: u64, node_id: u64, seed: u64) -> u64
     ensures { result ≡ hash_of term node_id seed }
 {
@@ -21,6 +22,7 @@ fn vote_hash(term: u64, node_id: u64, seed: u64) -> u64
 }
 
 // A remainder below 10000 is a whole number that an f64 holds, so the division alone rounds.
+#[tactic(auto, unfolding(crate::specs::Votes::share_of))]
 fn vote_share(h: u64) -> f64
     ensures { result ≡ share_of h }
 {
@@ -29,6 +31,7 @@ fn vote_share(h: u64) -> f64
 }
 
 // Whether the position votes no.
+#[tactic(auto, unfolding(crate::specs::Votes::no_of))]
 pub fn should_abort_app(voting: Voting, term: u64, node_id: usize) -> bool
     ensures { result ≡ no_of voting term node_id }
 {

@@ -29,15 +29,12 @@ const MOST: usize = 1024;
 // The numbers of a pipeline packet. A capture packet has fewer.
 const NUMBERS: usize = 12;
 
-// What an entry for C told, or the number of its refusal.
+// What an entry for C told, or the number of its refusal: the entries answer with numbers, and numbers are printed.
 fn accepted<T: Drop>(refusal: u64, told: T) -> Result<T, u64> {
-    match refusal {
-        0 => Ok(told),
-        _ => Err(refusal),
-    }
+    if refusal == 0 { Ok(told) } else { Err(refusal) }
 }
 
-// What a text was read to.
+// What a text was read to, in the two lists that C has for it: no number belongs to a byte of the data.
 #[derive(Clone, Copy)]
 struct Packet {
     numbers: [u64; NUMBERS],

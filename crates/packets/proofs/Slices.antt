@@ -1,26 +1,17 @@
 -- What std says of slices, in the words of the rules.
 -- Assumes nothing.
-use Rattle.std.proofs.Common.{◌≡◌, refl, sym, ap, ◌∙◌, arith, ℕ, ◌+◌, ◌-◌, ◌≤◌, ◌<◌, Bool, true, false, ◌&&◌, List, [], ◌∷◌, length, take, drop, get_or, eqb, ltb, le-ltb, min, drop-drop, length-drop, append_assoc}
+use Rattle.std.proofs.Common.{◌≡◌, refl, sym, ap, ◌∙◌, arith, ℕ, ◌-◌, ◌≤◌, ◌<◌, Bool, true, false, ◌&&◌, List, [], ◌∷◌, length, take, drop, get_or, eqb, ltb, le-ltb, min, length-drop}
 use Rattle.std.proofs.Math.Seq.{drop-cons, take_all}
 use lib.ListN.{drop_of_length-le}
 use Rattle.std.proofs.lemmas.Bool.Decides.{nat_tests}
-use borrow.Rule.Slice.PartMut.{put_mid}
 use borrow.Author.Tests.{ltb-true, ltb-false}
 use Rattle.std.specs.List.{starts_with as begins_with}
 use Rattle.std.specs.Char.{is_ascii_digit}
 use Rattle.loops.specs.Pick.{either}
-use Rattle.texts.specs.Put.{written}
 use Rattle.texts.specs.Literals.{starts_with, lit_at}
 use Rattle.texts.specs.LiteralLaws.{with_short}
 use Rattle.texts.specs.Readers.{is_digit, starts_num}
 use Rattle.texts.specs.NumberLaws.{starts_end}
-
--- a part that was copied over
-pub mid_written : (d : List ℕ) (at : ℕ) (t ys : List ℕ) → ys ≡ t → put_mid at (at + length t - at) d ys ≡ written d at t
-unfolding written
-mid_written d at t ys e =
-    let k : at + length t - at ≡ length t = omega arith in
-    rw (e, k, drop-drop (length t) at d) (sym (append_assoc (take at d) t (drop (at + length t) d)))
 
 turned : (x y : ℕ) → eqb x y ≡ eqb y x
 turned x y = grind (arith, nat_tests)

@@ -3,9 +3,10 @@
 use mathlib.Core.Path.{◌≡◌, refl, sym, ap, ◌∙◌}
 use mathlib.Core.Bool.{Bool, true, false}
 use mathlib.Core.List.{List, [], ◌∷◌, ◌++◌}
-use Prim.Native.Nat.{ℕ, zero, suc, ◌+◌, ◌-◌, ◌*◌, ◌/◌, ◌%◌, ◌≤◌, ◌<◌}
+use Prim.Native.Nat.{ℕ, zero, suc, ◌+◌, ◌-◌, ◌*◌, ◌/◌, ◌%◌, ◌^◌, ◌≤◌, ◌<◌}
 use native.Mathlib.Numerals.{add-one, sub-one}
 use native.Mathlib.Omega.{arith}
+use Rattle.std.proofs.Common.{pow-suc}
 use lib.Dec.{eqb}
 use lib.ListN.{length, take, drop, get_or, length-append, drop_of_length-le}
 use lib.Seq.{drop-cons, length-take-le, get_or-take}
@@ -14,7 +15,7 @@ use mir.Val.{bool_byte}
 use Rattle.loops.specs.Pick.{either}
 use Rattle.marks.specs.Marks.{has, count_of, marks_of}
 use Rattle.marks.specs.Laws.{has_half, has_low}
-use Rattle.texts.specs.Decimal.{decimal}
+use Rattle.texts.specs.Decimal.{decimal, length_small, length_step, dec_ind, decimal_le}
 use Rattle.texts.specs.Readers.{bool_text, items_text, list_text}
 use Rattle.packets.specs.Packets.{bitmap_text}
 use Rattle.packets.specs.Writing.{bitmap_len}
@@ -50,6 +51,13 @@ bitmap_more b h = go b.len h
     go : (n : ℕ) → (n ≡ 0 → ⊥) → list_text bool_text (marks_of b.marks n) ≡ (91 ∷ []) ++ (bool_text (eqb (b.marks % 2) 1) ++ items_text bool_text (marks_of (b.marks / 2) (n - 1)))
     go zero h = absurd (h refl)
     go (suc n) h = rw sub-one
+
+-- ---- bytes that are put as they are
+pub src_none : (t : List ℕ) (i : ℕ) → length t ≤ i → drop i t ≡ []
+src_none t i h = drop_of_length-le t {i = i} h
+
+pub src_more : (t : List ℕ) (i : ℕ) → i < length t → drop i t ≡ (get_or t i 0 ∷ []) ++ drop (i + 1) t
+src_more t i h = rw (add-one, drop-cons t i 0 h)
 
 -- ---- the bytes of data
 pub rest_none : (d : List ℕ) (i : ℕ) → length d ≤ i → items_text decimal (drop i d) ≡ 93 ∷ []
@@ -154,3 +162,25 @@ list_len_none d n h = ap length (list_none d n h)
 
 pub list_len_more : (d : List ℕ) (n : ℕ) → (n ≡ 0 → ⊥) → n ≤ length d → length (list_text decimal (take n d)) ≡ length (items_text decimal (take n d))
 list_len_more d n h k = ap length (list_more d n h k) ∙ sym (ap length (bytes_more d n 0 k (omega arith)))
+
+-- ---- how many digits a number has
+ten_pos : (k : ℕ) → 0 < 10 ^ k
+ten_pos zero = omega arith
+ten_pos (suc k) = omega (arith, pow-suc 10 k, ten_pos k)
+
+pub digits_from : (n k : ℕ) → 10 ^ k ≤ n → k + 1 ≤ length (decimal n)
+digits_from =
+    dec_ind (λ n. (k : ℕ) → 10 ^ k ≤ n → k + 1 ≤ length (decimal n))
+    one
+    more
+  where
+    one : (n : ℕ) → n < 10 → (k : ℕ) → 10 ^ k ≤ n → k + 1 ≤ length (decimal n)
+    one n h zero b = omega (arith, length_small n h)
+    one n h (suc k) b = absurd (omega (arith, pow-suc 10 k, ten_pos k))
+
+    more : (n : ℕ) → 10 ≤ n → ((k : ℕ) → 10 ^ k ≤ n / 10 → k + 1 ≤ length (decimal (n / 10))) → (k : ℕ) → 10 ^ k ≤ n → k + 1 ≤ length (decimal n)
+    more n h ih zero b = omega (arith, length_step n h)
+    more n h ih (suc k) b = omega (arith, length_step n h, ih k (omega (arith, pow-suc 10 k)))
+
+pub digits_are : (n k : ℕ) → 10 ^ k ≤ n → n < 10 * 10 ^ k → length (decimal n) ≡ k + 1
+digits_are n k a b = omega (arith, digits_from n k a, decimal_le n k (omega (arith, pow-suc 10 k)))

@@ -1,7 +1,7 @@
 -- A text that is written piece by piece.
 -- Assumes nothing.
 use Rattle.std.proofs.Common.{◌≡◌, refl, sym, ◌∙◌, arith, ℕ, ◌<◌, List, [], ◌∷◌, ◌++◌, length, subst, append-nil}
-use Rattle.texts.specs.Put.{Due, due_all, due_as, due_room, due_put, due_last}
+use Rattle.texts.specs.Put.{Due, due_all, due_as, due_room, due_put, due_none, due_last}
 use Rattle.packets.specs.Writers.{RoomIn, Wrote}
 use Rattle.packets.specs.declared.put.Writer.{Writer}
 
@@ -35,3 +35,6 @@ left_end {s = s} h = due_room s [] (due_as (sym (append-nil s)) h.due)
 
 pub left_last : {w : Writer} {t : List ℕ} {v : Writer} {s : List ℕ} {x : Writer} → Left w t v s → Wrote v s x → Wrote w t x
 left_last h p = record { put = due_last h.due p.put; same = p.same ∙ h.same }
+
+pub left_done : {w : Writer} {t : List ℕ} {v : Writer} → Left w t v [] → Wrote w t v
+left_done h = record { put = due_none h.due; same = h.same }

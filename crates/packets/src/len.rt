@@ -9,16 +9,14 @@ ghost use Rattle.packets.specs.Writing.{data_len};
 use crate::{Bitmap, Data};
 use graph::sets;
 
+#[tactic(auto, using(crate::proofs::Texts::digits_are, texts::specs::Decimal::length_small))]
 pub(crate) fn decimal_len(n: u64) -> usize
     ensures { (result ≡ length (decimal n)) × (result ≤ 20) }
 {
-    let mut rest = n;
-    let mut len = 1;
-    while 10 <= rest {
-        rest = rest / 10;
-        len += 1;
+    match n.checked_ilog10() {
+        None => 1,
+        Some(k) => k as usize + 1,
     }
-    len
 }
 
 // An entry and what stands before it are 6 bytes, of which `true` needs one less, and the closing bracket is 1.

@@ -10,7 +10,7 @@ pub mod two_pc_ce;
 pub mod two_pc_pipeline;
 
 // TwoPcCePhase and TwoPcState in one: both have these variants.
-#[derive(Clone, Copy, Debug, PartialEq, Eq)]
+#[derive(Clone, Copy, Debug, PartialEq, Eq, PartialOrd, Ord)]
 pub enum TwoPcPhase {
     Prepare = 0,
     Committed = 1,

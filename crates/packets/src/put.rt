@@ -11,7 +11,8 @@ ghost use Rattle.packets.specs.Writers.{RoomIn, Wrote};
 use crate::field::Field;
 use crate::{Bitmap, Data};
 
-// A lent buffer, and the place in it where the next text goes.
+// A lent buffer, and the place in it where the next text goes. A loop goes on a writer of its own, whose place stays
+// in a register: behind `self` it is stored and read again for each byte, and a packet of 64 marks took twice as long.
 #[derive(Drop)]
 pub struct Writer<'a> {
     pub buf: &'a mut [u8],
@@ -31,9 +32,14 @@ impl<'a> Writer<'a> {
         requires { RoomIn self.old src.now }
         ensures { Wrote self.old src.now self.new }
     {
-        let next = self.at + src.len();
-        self.buf[self.at..next].copy_from_slice(src);
-        self.at = next;
+        let mut w = Writer {
+            buf: &mut *self.buf,
+            at: self.at,
+        };
+        for &b in src {
+            w.byte(b);
+        }
+        self.at = w.at;
     }
 
     // The digits before the last one first, so that nothing has to be turned round.
@@ -41,8 +47,8 @@ impl<'a> Writer<'a> {
         requires { RoomIn self.old (decimal n) }
         ensures { Wrote self.old (decimal n) self.new }
     {
-        if n < 10 {
-            return self.byte((n % 10) as u8 + b'0');
+        if n <= 255 {
+            return self.small(n as u8);
         }
         self.decimal(n / 10);
         self.byte((n % 10) as u8 + b'0');
@@ -54,7 +60,7 @@ impl<'a> Writer<'a> {
         ensures { Wrote self.old (decimal b) self.new }
     {
         if b < 10 {
-            return self.byte(b % 10 + b'0');
+            return self.byte(b + b'0');
         }
         if b < 100 {
             self.byte(b / 10 + b'0');
@@ -70,13 +76,18 @@ impl<'a> Writer<'a> {
         requires { RoomIn self.old (items_text bool_text (marks_of m n)) }
         ensures { Wrote self.old (items_text bool_text (marks_of m n)) self.new }
     {
+        let mut w = Writer {
+            buf: &mut *self.buf,
+            at: self.at,
+        };
         let mut rest = m;
         for done in 0..n {
-            self.byte(b',');
-            (rest % 2 == 1).put(self);
+            w.byte(b',');
+            (rest % 2 == 1).put(&mut w);
             rest = rest / 2;
         }
-        self.byte(b']');
+        w.byte(b']');
+        self.at = w.at;
     }
 
     pub(crate) fn bitmap(&mut self, b: Bitmap)
@@ -96,11 +107,16 @@ impl<'a> Writer<'a> {
         requires { RoomIn self.old (items_text decimal bytes.now) }
         ensures { Wrote self.old (items_text decimal bytes.now) self.new }
     {
+        let mut w = Writer {
+            buf: &mut *self.buf,
+            at: self.at,
+        };
         for &b in bytes {
-            self.byte(b',');
-            self.small(b);
+            w.byte(b',');
+            w.small(b);
         }
-        self.byte(b']');
+        w.byte(b']');
+        self.at = w.at;
     }
 
     // Bytes as an array.

@@ -100,7 +100,8 @@ pub(crate) fn read_phase(s: &[u8], at: usize) -> Option<(TwoPcPhase, usize)>
     None
 }
 
-// Mark k of a word that has none from k on.
+// Mark k of a word that has none from k on. Its one caller is a loop that goes by k: a type that held the two bounds
+// would serve that loop alone.
 fn with_mark(m: u64, k: usize, b: bool) -> u64
     requires { (k < 64) × (m < 2 ^ k) }
     ensures { (result ≡ store_mark k b m) × (result < 2 ^ (k + 1)) }
@@ -108,8 +109,8 @@ fn with_mark(m: u64, k: usize, b: bool) -> u64
     if b { m + (1 << k) } else { m }
 }
 
-// Goes as read_data below. Both keep their items each in its own way, a mark in a word and a byte in an array; one reader
-// for both would take a function that keeps an item, with a clause of what it does, and be longer than the two.
+// Goes as read_data below. Both keep their items each in its own way, a mark in a word and a byte in an array; one
+// reader for both would take a function that keeps an item, with a clause of what it does, and be longer than the two.
 pub(crate) fn read_bitmap(s: &[u8], at: usize) -> Option<(Bitmap, usize)>
     ensures { result ≡ bitmap_at s.now at }
 {

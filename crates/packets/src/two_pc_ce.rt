@@ -41,11 +41,12 @@ fn put_ce(w: &mut Writer, p: CeTwoPcPacket)
     w.byte(b'}');
 }
 
-// The other family's writer and reader are the same but for the type. A trait of both would have a method for each of the
-// limits, the length, the text and the reader, and say more in two impls than stands here twice.
+// The other family's writer and reader are the same but for the type. A trait of both would have a method for each of
+// the limits, the length, the text and the reader, and say more in two impls than stands here twice.
 
-// Writes a packet's text from index at on, and answers with the index behind it: refusal 9 outside the limits, 10 where
-// it does not fit, and then the buffer is as it was.
+// Writes a packet's text from index at on, and answers with the index behind it: refusal 9 outside the limits, 10
+// where it does not fit, and then the buffer is as it was. Buffer and place are as C lends them: a place behind the
+// buffer is no slice, and is refused here.
 pub fn write_ce_packet(buf: &mut [u8], at: usize, p: CeTwoPcPacket) -> Result<usize, Refusal>
     ensures value { result ≡ wrote_of (ce_within p) (ce_text p) buf.old at }
     ensures buf_after { buf.new ≡ left_of (ce_within p) (ce_text p) buf.old at }

@@ -53,8 +53,9 @@ fn put_pipeline(w: &mut Writer, p: TwoPcPacket)
     w.byte(b'}');
 }
 
-// Writes a packet's text from index at on, and answers with the index behind it: refusal 9 outside the limits, 10 where
-// it does not fit, and then the buffer is as it was.
+// Writes a packet's text from index at on, and answers with the index behind it: refusal 9 outside the limits, 10
+// where it does not fit, and then the buffer is as it was. Buffer and place are as C lends them, see two_pc_ce.rt,
+// where it also says why the two families' writers and readers stand side by side.
 pub fn write_pipeline_packet(buf: &mut [u8], at: usize, p: TwoPcPacket) -> Result<usize, Refusal>
     ensures value { result ≡ wrote_of (pipeline_within p) (pipeline_text p) buf.old at }
     ensures buf_after { buf.new ≡ left_of (pipeline_within p) (pipeline_text p) buf.old at }

@@ -11,7 +11,7 @@ use native.Mathlib.Nat.{zero-add}
 use Prim.Native.Nat.{ℕ, ◌+◌, ◌^◌, ◌≤◌, ◌<◌}
 use native.Mathlib.Omega.{arith}
 use lib.Dec.{leb, ltb}
-use lib.ListN.{length, take, drop, get_or}
+use lib.ListN.{length, take, drop}
 use lib.Seq.{take_at}
 use lib.Pow.{pow_mono}
 use borrow.Author.Tests.{le-leb, lt-leb, lt-ltb}
@@ -21,14 +21,7 @@ use Rattle.texts.specs.Put.{written}
 use Rattle.packets.specs.Packets.{limits}
 use Rattle.packets.specs.Reading.{ce_read, pipeline_read}
 use Rattle.packets.proofs.Writes.{limits_true}
-use Rattle.packets_c.specs.Console.{
-  ce_told,
-  pipeline_told,
-  handed,
-  sizes_fit,
-  ce_fits,
-  pipeline_fits,
-}
+use Rattle.packets_c.specs.Console.{ce_told, pipeline_told, handed, sizes_fit}
 
 -- what a list holds after a part was copied to its front
 pub front_written : (d t ys : List ℕ) (n : ℕ) → ys ≡ t → n ≡ length t → ys ++ drop n d ≡ written d 0 t
@@ -81,17 +74,6 @@ taken_back d t = take_at t (drop (0 + length t) d) (length t) refl
 pub all_fit : (entries marks : ℕ) → 64 ≤ entries → marks < 2 ^ 64 → true ≡ ltb marks (2 ^ entries)
 all_fit entries marks h k = sym (lt-ltb marks (2 ^ entries) (omega (arith, pow_mono h)))
 
--- so much data is asked for at most
-pub ce_small : (m : List ℕ) → ce_fits m ≡ true → get_or m 2 0 ≤ 32
-unfolding ce_fits
-ce_small m h =
-    let a = and_true (leb (get_or m 1 0) 2) _ h in
-    (limits_true (get_or m 3 0) (get_or m 2 0) (and_true (limits (get_or m 3 0) (get_or m 2 0)) _ a.1).0).1
-
-pub pipeline_small : (m : List ℕ) → pipeline_fits m ≡ true → get_or m 6 0 ≤ 32
-unfolding pipeline_fits
-pipeline_small m h =
-    let a = and_true (leb (get_or m 1 0) 2) _ h in
-    let b = and_true (leb (get_or m 4 0) 1) _ a.1 in
-    let c = and_true (sizes_fit (get_or m 2 0) (get_or m 6 0) (get_or m 3 0)) _ b.1 in
-    (limits_true (get_or m 2 0) (get_or m 6 0) (and_true (limits (get_or m 2 0) (get_or m 6 0)) _ c.0).0).1
+-- so much data fits
+pub sizes_small : (entries bytes marks : ℕ) → true ≡ sizes_fit entries bytes marks → bytes ≤ 32
+sizes_small entries bytes marks h = (limits_true entries bytes (and_true (limits entries bytes) _ (sym h)).0).1

@@ -1,10 +1,11 @@
-// RULES 17. The entries for C: a packet is numbers and bytes in lent slices, the answer is the refusal, 0 for none. A
-// refused call writes nothing.
-ghost use Rattle.std.specs.Prelude.{◌≡◌, ◌≤◌, length};
+// RULES 17. The entries for C: a packet is numbers and bytes in lent slices, a buffer has the place beside it where the
+// text goes, the answer is the refusal's number, 0 for none: C has no other types. A refused call writes nothing.
+ghost use Rattle.std.specs.Prelude.{◌≡◌, ◌≤◌, Some, None, eqb, length, replicate};
+ghost use Rattle.loops.specs.Pick.{either};
 ghost use Rattle.limits.specs.Limits.{data_bytes};
 ghost use Rattle.limits.specs.Refusals.{answer_of};
 ghost use Rattle.texts.specs.Put.{written};
-ghost use Rattle.packets_c.specs.Console.{phase_numbered, state_number, ce_numbers, pipeline_numbers, ce_told, pipeline_told, handed, data_asked, sizes_fit, ce_fits, ce_numbered, ce_asked, pair_fits, piggyback_fits, pipeline_fits, pipeline_numbered, pipeline_asked, ce_wrote, ce_left, pipeline_wrote, pipeline_left, next_of};
+ghost use Rattle.packets_c.specs.Console.{phase_numbered, ce_numbers, pipeline_numbers, ce_told, pipeline_told, handed, data_asked, sizes_fit, ce_asked, pair_fits, piggyback_fits, pipeline_asked, ce_wrote, ce_left, pipeline_wrote, pipeline_left, next_of};
 
 use limits::refusals;
 use limits::refusals::Refusal;
@@ -12,7 +13,8 @@ use packets::{
     Bitmap, CeTwoPcPacket, Data, TwoPcPacket, TwoPcPhase, len, two_pc_ce, two_pc_pipeline,
 };
 
-// C gives numbers. Where this is called they were tested, or a number above 2 reads as Aborted.
+// A phase by its number in C. No TryFrom: engines_c reads a phase out of a list in which any number may stand, and
+// refuses none, so a number above 2 is Aborted; here such a number was refused before.
 pub fn phase_numbered(n: u64) -> TwoPcPhase
     ensures { result ≡ phase_numbered n }
 {
@@ -20,15 +22,6 @@ pub fn phase_numbered(n: u64) -> TwoPcPhase
         0 => TwoPcPhase::Prepare,
         1 => TwoPcPhase::Committed,
         _ => TwoPcPhase::Aborted,
-    }
-}
-
-fn state_number(p: Option<TwoPcPhase>) -> u64
-    ensures { result ≡ state_number p }
-{
-    match p {
-        None => 0,
-        Some(phase) => phase as u64,
     }
 }
 
@@ -61,76 +54,56 @@ fn pipeline_numbers(p: TwoPcPacket) -> [u64; 12]
         p.piggyback_tx.is_some() as u64,
         p.piggyback_tx.unwrap_or(0),
         p.piggyback_state.is_some() as u64,
-        state_number(p.piggyback_state),
+        p.piggyback_state.map_or(0, |state| state as u64),
     ]
 }
 
-// The first len bytes, with zeros behind them.
-fn filled(bytes: &[u8], len: usize) -> Data
-    requires { (len ≤ data_bytes) × (len ≤ length bytes.now) }
-    ensures { result ≡ data_asked bytes.now len }
+// The bytes, with zeros behind them. How many they are is tested with the other sizes, by which a packet is refused.
+fn filled(bytes: &[u8]) -> Data
+    requires { length bytes.now ≤ data_bytes }
+    ensures { result ≡ record { len = length bytes.now; bytes = written (replicate 32 0) 0 bytes.now } }
 {
     let mut kept = [0u8; 32];
-    kept[..len].copy_from_slice(&bytes[..len]);
-    Data { len, bytes: kept }
+    kept[..bytes.len()].copy_from_slice(bytes);
+    Data {
+        len: bytes.len(),
+        bytes: kept,
+    }
 }
 
 // The limits, and no mark at or above the number of entries: a full bitmap has an entry for every mark.
-fn sizes_fit(entries: usize, bytes_len: usize, marks: u64) -> bool
-    ensures { result ≡ sizes_fit entries bytes_len marks }
+fn sizes_fit(b: Bitmap, bytes_len: usize) -> bool
+    ensures { result ≡ sizes_fit b.len bytes_len b.marks }
 {
-    if !len::within(entries, bytes_len) {
+    if !len::within(b.len, bytes_len) {
         return false;
     }
-    if entries >= limits::BITMAP {
-        return true;
-    }
-    marks < (1 << entries)
+    b.len >= limits::BITMAP || b.marks < (1 << b.len)
 }
 
-#[tactic(auto, unfolding(crate::specs::Console::ce_fits))]
-fn ce_fits(numbers: &[u64]) -> bool
-    requires { 5 ≤ length numbers.now }
-    ensures { result ≡ ce_fits numbers.now }
-{
-    numbers[1] <= 2 && sizes_fit(numbers[3] as usize, numbers[2] as usize, numbers[4])
-}
-
-// The packet of numbers that fit.
-fn ce_packet(numbers: &[u64], proposal_data: Data) -> CeTwoPcPacket
-    requires { 5 ≤ length numbers.now }
-    ensures { result ≡ ce_numbered numbers.now proposal_data }
-{
-    CeTwoPcPacket {
-        term: numbers[0],
-        phase: phase_numbered(numbers[1]),
-        proposal_data,
-        flags_bitmap: Bitmap {
-            len: numbers[3] as usize,
-            marks: numbers[4],
-        },
-    }
-}
-
-#[tactic(auto, unfolding(crate::specs::Console::ce_asked))]
+#[tactic(auto, unfolding(crate::specs::Console::ce_asked, crate::specs::Console::ce_fits))]
 fn ce_asked(numbers: &[u64], bytes: &[u8]) -> Result<CeTwoPcPacket, Refusal>
     ensures { result ≡ ce_asked numbers.now bytes.now }
 {
-    if numbers.len() < 5 {
+    let &[term, phase, bytes_len, entries, marks, ..] = numbers else {
         return Err(Refusal::NoFit);
-    }
-    let bytes_len = numbers[2] as usize;
-    if bytes_len > bytes.len() {
-        return Err(Refusal::NoFit);
-    }
-    if !ce_fits(numbers) {
+    };
+    let data = bytes.get(..bytes_len as usize).ok_or(Refusal::NoFit)?;
+    let len = entries as usize;
+    let flags_bitmap = Bitmap { len, marks };
+    if phase > 2 || !sizes_fit(flags_bitmap, data.len()) {
         return Err(Refusal::BadPacket);
     }
-    Ok(ce_packet(numbers, filled(bytes, bytes_len)))
+    Ok(CeTwoPcPacket {
+        term,
+        phase: phase_numbered(phase),
+        proposal_data: filled(data),
+        flags_bitmap,
+    })
 }
 
 // What follows for the other family has the same four functions: a packet asked for, handed out, read and written. They
-// differ in each number's place, and a trait of both would name every such place once more.
+// differ in each number's name and place, and a trait of both would name every such place once more.
 
 // 1 and any number, or 0 and 0.
 fn pair_fits(there: u64, n: u64) -> bool
@@ -145,58 +118,57 @@ fn piggyback_fits(tx_there: u64, tx: u64, state_there: u64, state: u64) -> bool
     pair_fits(tx_there, tx) && pair_fits(state_there, state) && state <= 2
 }
 
-#[tactic(auto, unfolding(crate::specs::Console::pipeline_fits))]
-fn pipeline_fits(numbers: &[u64]) -> bool
-    requires { 12 ≤ length numbers.now }
-    ensures { result ≡ pipeline_fits numbers.now }
+// What may be absent, by the number that says whether it is there.
+fn there<T: Copy>(there: u64, value: T) -> Option<T>
+    ensures { result ≡ either (eqb there 0) None (Some value) }
 {
-    numbers[1] <= 2
-        && numbers[4] <= 1
-        && sizes_fit(numbers[2] as usize, numbers[6] as usize, numbers[3])
-        && piggyback_fits(numbers[8], numbers[9], numbers[10], numbers[11])
+    if there == 0 { None } else { Some(value) }
 }
 
-// The packet of numbers that fit.
-fn pipeline_packet(numbers: &[u64], transaction_data: Data) -> TwoPcPacket
-    requires { 12 ≤ length numbers.now }
-    ensures { result ≡ pipeline_numbered numbers.now transaction_data }
-{
-    let tx = numbers[9];
-    let phase = phase_numbered(numbers[11]);
-    TwoPcPacket {
-        transaction_id: numbers[0],
-        state: phase_numbered(numbers[1]),
-        flags_bitmap: Bitmap {
-            len: numbers[2] as usize,
-            marks: numbers[3],
-        },
-        abort_flag: numbers[4] == 1,
-        nack_tx_id: numbers[5],
-        transaction_data,
-        sender: numbers[7],
-        piggyback_tx: if numbers[8] == 0 { None } else { Some(tx) },
-        piggyback_state: if numbers[10] == 0 { None } else { Some(phase) },
-    }
-}
-
-#[tactic(auto, unfolding(crate::specs::Console::pipeline_asked))]
+#[tactic(auto, unfolding(crate::specs::Console::pipeline_asked, crate::specs::Console::pipeline_fits))]
 fn pipeline_asked(numbers: &[u64], bytes: &[u8]) -> Result<TwoPcPacket, Refusal>
     ensures { result ≡ pipeline_asked numbers.now bytes.now }
 {
-    if numbers.len() < 12 {
+    let &[
+        transaction_id,
+        state,
+        entries,
+        marks,
+        abort,
+        nack_tx_id,
+        bytes_len,
+        sender,
+        tx_there,
+        tx,
+        phase_there,
+        phase,
+        ..
+    ] = numbers
+    else {
         return Err(Refusal::NoFit);
-    }
-    let bytes_len = numbers[6] as usize;
-    if bytes_len > bytes.len() {
-        return Err(Refusal::NoFit);
-    }
-    if !pipeline_fits(numbers) {
+    };
+    let data = bytes.get(..bytes_len as usize).ok_or(Refusal::NoFit)?;
+    let len = entries as usize;
+    let flags_bitmap = Bitmap { len, marks };
+    let fits = piggyback_fits(tx_there, tx, phase_there, phase);
+    if state > 2 || abort > 1 || !fits || !sizes_fit(flags_bitmap, data.len()) {
         return Err(Refusal::BadPacket);
     }
-    Ok(pipeline_packet(numbers, filled(bytes, bytes_len)))
+    Ok(TwoPcPacket {
+        transaction_id,
+        state: phase_numbered(state),
+        flags_bitmap,
+        abort_flag: abort == 1,
+        nack_tx_id,
+        transaction_data: filled(data),
+        sender,
+        piggyback_tx: there(tx_there, tx),
+        piggyback_state: there(phase_there, phase_numbered(phase)),
+    })
 }
 
-// Hands out a packet's numbers and all 32 bytes, into slices that have room for them.
+// Hands out a packet's numbers and all 32 bytes, into slices that have room for them: the callers test that before they
+// read, since 10 is told before 9.
 fn hand_out(values: &[u64], d: Data, numbers: &mut [u64], bytes: &mut [u8])
     requires { (length values.now ≤ length numbers.old) × (data_bytes ≤ length bytes.old) }
     ensures numbers_after { numbers.new ≡ written numbers.old 0 values.now }

@@ -1,4 +1,5 @@
-// RULES 17. What C links of packets_c: each entry is the function of that crate of the same name, with its clauses.
+// RULES 17. What C links of packets_c: each entry is the function of that crate of the same name, with its clauses and
+// its parameters, which are C's.
 #![tactic(auto)]
 
 ghost use Rattle.std.specs.Prelude.{◌≡◌, length};

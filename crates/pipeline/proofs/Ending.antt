@@ -1,17 +1,18 @@
 -- RULES 10.11: a room of t transactions accepts at most t + 1002 rounds, since
 -- the round in which it stops is the last one. Assumes nothing.
-use Rattle.std.proofs.Common.{◌≡◌, ℕ, ◌+◌, ◌/◌, ◌≤◌, Bool, true, false, ◌&&◌, ◌||◌, eqb, ltb, leb, List, length, refl, subst, arith, ltb-false, eqb-true}
+use Rattle.std.proofs.Common.{◌≡◌, ℕ, ◌+◌, ◌/◌, ◌≤◌, Bool, true, false, ◌&&◌, ◌||◌, ltb, leb, Ok, List, length, refl, sym, subst, arith, ltb-false}
+use Rattle.std.specs.Result.{is_ok}
 use Rattle.loops.specs.Pick.{either}
-use Rattle.limits.specs.Limits.{positions}
-use Rattle.limits.specs.Refusals.{bad_positions, stopped}
+use Rattle.limits.specs.Refusals.{Tested}
+use Rattle.limits.proofs.Tests.{ok_told}
 use Rattle.pipeline.specs.Pipeline.{stops_at}
-use Rattle.pipeline.specs.Round.{size_of, next_round, close_round, run_round, rows_of_round, early_refusal, start_draw, round_refusal, refused_with, accepted_with, round_answer}
+use Rattle.pipeline.specs.Round.{size_of, next_round, close_round, run_round, rows_of_round, early_test, start_draw, round_test, refused_with, accepted_with, round_answer}
 use Rattle.pipeline.specs.declared.pipeline.PipelineConf.{PipelineConf}
 use Rattle.pipeline.specs.declared.pipeline.PipelinePart.{PipelinePart}
 use Rattle.pipeline.specs.declared.pipeline.RoundRun.{RoundRun}
 use Rattle.engines.specs.declared.network.Network.{Network}
 use Rattle.engines.specs.declared.words.Draw.{Draw}
-use Rattle.pipeline.proofs.Rounding.{refusal_none}
+use Rattle.pipeline.proofs.Rounding.{early_going, refusal_none}
 
 -- k rounds were accepted: the room has stopped, or its round number is k
 abbrev pub Spent : ℕ → ℕ → Bool → ℕ → Type 0
@@ -23,10 +24,10 @@ spent_few t k true r h = h
 spent_few t k false r h = omega (arith, h.0, h.1)
 
 -- 1 for a round that is accepted
-abbrev pub accepted : ℕ → ℕ
-accepted refusal = either (eqb refusal 0) 1 0
+abbrev pub accepted : Tested → ℕ
+accepted told = either (is_ok told) 1 0
 
-pub spent_refused : (t k : ℕ) (stop : Bool) (r m : ℕ) → eqb m 0 ≡ false → Spent t k stop r → Spent t (k + accepted m) stop r
+pub spent_refused : (t k : ℕ) (stop : Bool) (r : ℕ) (m : Tested) → is_ok m ≡ false → Spent t k stop r → Spent t (k + accepted m) stop r
 spent_refused t k true r m e h = rw e (omega (arith, h))
 spent_refused t k false r m e h = rw e (omega (arith, h.0), h.1)
 
@@ -46,13 +47,8 @@ closing t done counter r k s e l = by (stops_at t done counter r) refl
         (omega (arith, g, s, e), omega (arith, g, s))
 
 -- a room that has stopped is refused
-going : (conf : PipelineConf) (slot : ℕ) (stop : Bool) → early_refusal conf slot stop ≡ 0 → stop ≡ false
-unfolding early_refusal
-going conf slot true h = by (eqb (size_of conf) 0 || ltb positions (size_of conf)) h
-  where
-    by : (b : Bool) → ◌≡◌ {A = ℕ} (either b bad_positions stopped) 0 → true ≡ false
-    by true q = absurd (omega arith)
-    by false q = absurd (omega arith)
+going : (conf : PipelineConf) (slot : ℕ) (stop : Bool) → early_test conf slot stop ≡ Ok tt → stop ≡ false
+going conf slot true h = sym (early_going conf slot true h)
 going conf slot false h = refl
 
 -- one round, by how it closes
@@ -64,15 +60,15 @@ run_spent ws conf w p d k s e l = closing conf.transactions _ _ p.round k s e l
 -- a call of a room, refused or not
 pub answer_spent : (ws : List ℕ) (numbers used : ℕ) (conf : PipelineConf) (w : Network) (p : PipelinePart) (cursor k : ℕ) → conf.transactions ≤ 64
     → Spent conf.transactions k p.stop p.round
-    → let a = round_answer ws numbers used conf w p cursor in Spent conf.transactions (k + accepted a.refusal) a.part.stop a.part.round
+    → let a = round_answer ws numbers used conf w p cursor in Spent conf.transactions (k + accepted a.told) a.part.stop a.part.round
 unfolding round_answer
-answer_spent ws numbers used conf w p cursor k s h = by (eqb refusal 0) refl
+answer_spent ws numbers used conf w p cursor k s h = by (is_ok told) refl
   where
     t : ℕ
     t = conf.transactions
 
-    refusal : ℕ
-    refusal = round_refusal ws numbers used conf w p cursor
+    told : Tested
+    told = round_test ws numbers used conf w p cursor
 
     x : RoundRun
     x = run_round ws conf w p (start_draw cursor)
@@ -80,7 +76,7 @@ answer_spent ws numbers used conf w p cursor k s h = by (eqb refusal 0) refl
     ran : p.stop ≡ false → Spent t (k + 1) x.part.stop x.part.round
     ran g = let v : Spent t k false p.round = subst (λ (b : Bool). Spent t k b p.round) g h in run_spent ws conf w p (start_draw cursor) k s v.0 v.1
 
-    by : (b : Bool) → eqb refusal 0 ≡ b
-        → let a = either b (accepted_with (used + length (rows_of_round ws conf w p (start_draw cursor)) / 5) x) (refused_with refusal w p cursor used) in Spent t (k + accepted a.refusal) a.part.stop a.part.round
-    by true e = ran (going conf w.slot p.stop (refusal_none ws numbers used conf w p cursor (eqb-true refusal 0 e)).0)
-    by false e = spent_refused t k p.stop p.round refusal e h
+    by : (b : Bool) → is_ok told ≡ b
+        → let a = either b (accepted_with (used + length (rows_of_round ws conf w p (start_draw cursor)) / 5) x) (refused_with told w p cursor used) in Spent t (k + accepted a.told) a.part.stop a.part.round
+    by true e = ran (going conf w.slot p.stop (refusal_none ws numbers used conf w p cursor (ok_told told e)).0)
+    by false e = spent_refused t k p.stop p.round told e h

@@ -1,6 +1,7 @@
 -- RULES 11.9, the logs, over a whole round: what each step keeps, each position keeps, and so the room.
 -- Assumes nothing.
-use Rattle.std.proofs.Common.{ℕ, zero, suc, Bool, true, false, eqb, Option, Some, None, List, [], ◌∷◌, get_or, set}
+use Rattle.std.proofs.Common.{ℕ, zero, suc, Bool, true, false, Option, Some, None, List, [], ◌∷◌, get_or, set}
+use Rattle.std.specs.Result.{is_ok}
 use lib.Ieee.{Float}
 use Rattle.loops.specs.Pick.{either}
 use Rattle.loops.specs.Upto.{upto_holds}
@@ -10,7 +11,7 @@ use Rattle.pipeline.specs.Pending.{merge_votes, merge_abort, vote_of, fast_of, a
 use Rattle.engines.specs.Nodes.{sets_of}
 use Rattle.pipeline.specs.declared.process.AllProcessed.{AllProcessed}
 use Rattle.pipeline.specs.Pipeline.{parts_of, new_tx, old_tx, is_fresh, begin_tx, prepare_round, is_new, learnt, hear_new, merge_round, take_up, process_one, no_state, process_at, process_all}
-use Rattle.pipeline.specs.Round.{size_of, facts_of, initiator_of, preparing, flood_of, processing, close_round, run_round, start_draw, round_refusal, round_answer}
+use Rattle.pipeline.specs.Round.{size_of, facts_of, initiator_of, preparing, flood_of, processing, close_round, run_round, start_draw, round_test, PipelineAnswer, round_answer}
 use Rattle.engines.specs.declared.network.Network.{Network}
 use Rattle.engines.specs.declared.words.Draw.{Draw}
 use Rattle.pipeline.specs.declared.two_pc_pipeline.TxLog.{TxLog}
@@ -26,7 +27,6 @@ use Rattle.pipeline.specs.declared.process.RoundFacts.{RoundFacts}
 use Rattle.pipeline.specs.declared.process.Carried.{Carried}
 use Rattle.pipeline.specs.declared.pipeline.PipelineConf.{PipelineConf}
 use Rattle.pipeline.specs.declared.pipeline.PipelinePart.{PipelinePart}
-use Rattle.pipeline.specs.declared.pipeline.PipelineAnswer.{PipelineAnswer}
 use Rattle.pipeline.proofs.Growth.{Grown, grown_same, grown_more, Kept, finalize_kept, judged_kept, aborts_kept, open_kept, votes_kept, abort_kept, own_kept}
 
 -- ---- a round
@@ -143,7 +143,7 @@ pub answer_kept : (ws : List ℕ) (numbers used : ℕ) (conf : PipelineConf) (w 
     → AllKept p.states (round_answer ws numbers used conf w p cursor).part.states
 unfolding round_answer
 answer_kept ws numbers used conf w p cursor =
-    pick (eqb (round_refusal ws numbers used conf w p cursor) 0) _ _ (run_kept ws conf w p (start_draw cursor)) (λ j. grown_same (log_of p.states j))
+    pick (is_ok (round_test ws numbers used conf w p cursor)) _ _ (run_kept ws conf w p (start_draw cursor)) (λ j. grown_same (log_of p.states j))
   where
     pick : (b : Bool) (r s : PipelineAnswer) → AllKept p.states r.part.states → AllKept p.states s.part.states → AllKept p.states (either b r s).part.states
     pick true r s a c = a

@@ -1,27 +1,32 @@
 -- A pipeline round step by step, and its refusals. Assumes nothing.
-use Rattle.std.proofs.Common.{◌≡◌, ℕ, ◌+◌, ◌-◌, ◌*◌, ◌/◌, ◌<◌, ◌≤◌, Bool, true, false, ◌||◌, eqb, ltb, List, ◌++◌, length, take, drop, sym, refl, ap, ◌∙◌, true≢false, arith, ltb-false, eq-eqb, ne_eqb, eqb-true}
+use Rattle.std.proofs.Common.{◌≡◌, ℕ, ◌+◌, ◌-◌, ◌*◌, ◌/◌, ◌<◌, ◌≤◌, Bool, true, false, not, Ok, Err, Some, None, ltb, List, ◌++◌, length, take, drop, sym, refl, ap, ◌∙◌, true≢false, arith}
 use lib.Seq.{sets}
 use mir.Val.{bool_byte}
-use borrow.Author.Tests.{eqb-false}
+use Rattle.std.specs.Result.{result_and}
 use Rattle.loops.specs.Pick.{either}
 use Rattle.limits.specs.Limits.{positions, last_slot}
-use Rattle.limits.specs.Refusals.{bad_positions, stopped}
+use Rattle.limits.specs.Refusals.{Tested, holds_or}
+use Rattle.limits.specs.declared.refusals.Refusal.{Refusal}
+use Rattle.limits.specs.declared.refusals.Refusal.TheVariants.{Stopped}
+use Rattle.limits.proofs.Tests.{held, first_held, second_held}
+use Rattle.graph.specs.Links.{size_test}
+use Rattle.graph.proofs.Rules.{size_parts}
 use Rattle.engines.specs.Nodes.{inc, sets_of}
-use Rattle.engines.specs.Network.{long_refusal, late_of}
+use Rattle.engines.specs.Network.{length_test, late_test}
 use Rattle.engines.specs.Rounds.{placed}
 use Rattle.engines.proofs.Rounds.{length_fits, late_fits, placed_whole}
 use Rattle.flood.specs.Flood.{flood_round, flood_rows, flooded_of}
-use Rattle.flood.proofs.Flooding.{told_short, told_run, told_due}
+use Rattle.flood.proofs.Flooding.{told_short, told_whole}
 use Rattle.pipeline.specs.Pending.{join_marks}
 use Rattle.pipeline.specs.declared.process.AllProcessed.{AllProcessed}
 use Rattle.pipeline.specs.Pipeline.{parts_of, shortest_log, progress_all, stops_at}
-use Rattle.pipeline.specs.Round.{size_of, deliver_all, covered_of, initiator_of, preparing, bytes_of, flood_from, counted_in, processing, close_round, flood_of, run_round, RoundSurveyed, rows_of_round, is_done, early_refusal, start_draw, late_refusal, round_refusal, refused_with, accepted_with, round_answer, round_buffer}
+use Rattle.pipeline.specs.Round.{size_of, deliver_all, covered_of, initiator_of, preparing, bytes_of, flood_from, counted_in, processing, close_round, flood_of, run_round, RoundSurveyed, rows_of_round, is_done, early_test, start_draw, run_test, round_test, PipelineAnswer, refused_with, accepted_with, round_answer, round_buffer}
 use Rattle.engines.specs.declared.words.Draw.{Draw}
 use Rattle.engines.specs.declared.network.Network.{Network}
 use Rattle.engines.specs.declared.node.Node.{Node}
 use Rattle.engines.specs.declared.node.StateSets.{StateSets}
 use Rattle.engines.specs.declared.metrics.MetricsCollector.{MetricsCollector}
-use Rattle.flood.specs.declared.flood.Flooded.{Flooded}
+use Rattle.flood.specs.declared.flood.FloodSurvey.{FloodSurvey}
 use Rattle.flood.specs.declared.flood.FloodRun.{FloodRun}
 use Rattle.pipeline.specs.declared.two_pc_pipeline.NodeTwoPcState.{NodeTwoPcState}
 use Rattle.pipeline.specs.declared.two_pc_pipeline.RoundPacket.{RoundPacket}
@@ -30,7 +35,6 @@ use Rattle.pipeline.specs.declared.process.Carried.{Carried}
 use Rattle.pipeline.specs.declared.pipeline.PipelineConf.{PipelineConf}
 use Rattle.pipeline.specs.declared.pipeline.PipelinePart.{PipelinePart}
 use Rattle.pipeline.specs.declared.pipeline.RoundRun.{RoundRun}
-use Rattle.pipeline.specs.declared.pipeline.PipelineAnswer.{PipelineAnswer}
 use Rattle.pipeline.proofs.Shortage.{close_short}
 
 -- ---- a run
@@ -42,27 +46,25 @@ module _ (ws : List ℕ) (conf : PipelineConf) (w : Network) (p : PipelinePart) 
   unfolding rows_of_round
   rows_same = rw (c, e, b, a)
 
-  module _ {f : Flooded} (v : f ≡ flooded_of ws conf.round bytes start) where
-    run_is : {r : RoundRun} → f.short ≡ false → r ≡ close_round ws conf p i prep f.run → r ≡ run_round ws conf w p d
-    unfolding run_round flood_of
-    run_is q g = rw (told_run ws conf.round bytes start v q, c, e, b, a) at g
+  pub run_whole : {x : FloodSurvey} → Some x ≡ flooded_of ws conf.round bytes start → {r : RoundRun} → r ≡ close_round ws conf p i prep x.run
+      → RoundSurveyed ws conf w p d r x.due
+  unfolding run_round flood_of
+  run_whole {x} v {r} g =
+      let t = told_whole ws conf.round bytes start v in
+      let h : r ≡ run_round ws conf w p d = rw (t.run, c, e, b, a) at g in
+      record {
+        short = ap (λ (x : RoundRun). x.draw.short) h;
+        run = λ z. h;
+        rows = λ z. t.due ∙ ap length rows_same;
+      }
 
-    pub run_whole : {r : RoundRun} → f.short ≡ false → r ≡ close_round ws conf p i prep f.run → RoundSurveyed ws conf w p d r f.due
-    run_whole q g =
-        let h = run_is q g in
-        record {
-          short = ap (λ (x : RoundRun). x.draw.short) h;
-          run = λ z. h;
-          rows = λ z. told_due ws conf.round bytes start v q ∙ ap length rows_same;
-        }
+  lacking : None ≡ flooded_of ws conf.round bytes start → (run_round ws conf w p d).draw.short ≡ true
+  unfolding run_round flood_of
+  lacking v =
+      rw (← a, ← b, ← c, ← e) (close_short ws conf p i prep (flood_round ws conf.round bytes start) (told_short ws conf.round bytes start v))
 
-    lacking : f.short ≡ true → (run_round ws conf w p d).draw.short ≡ true
-    unfolding run_round flood_of
-    lacking q =
-        rw (← a, ← b, ← c, ← e) (close_short ws conf p i prep (flood_round ws conf.round bytes start) (sym (told_short ws conf.round bytes start v) ∙ q))
-
-    pub run_short : (at : ℕ) → f.short ≡ true → RoundSurveyed ws conf w p d (record { network = w; part = p; draw = record { at = at; short = true } }) 0
-    run_short at q = record { short = sym (lacking q); run = λ z. absurd (true≢false z); rows = λ z. absurd (true≢false z) }
+  pub run_short : (at : ℕ) → None ≡ flooded_of ws conf.round bytes start → RoundSurveyed ws conf w p d (record { network = w; part = p; draw = record { at = at; short = true } }) 0
+  run_short at v = record { short = sym (lacking v); run = λ z. absurd (true≢false z); rows = λ z. absurd (true≢false z) }
 
 pub close_is : (ws : List ℕ) (conf : PipelineConf) (p : PipelinePart) (i : ℕ) (prep : Prepared) (f : FloodRun)
     {s : StateSets} {parts holding covered done round : ℕ} {payloads : List RoundPacket} {states : List NodeTwoPcState} {carried : Carried} {nodes : List Node} {stop : Bool} {metrics : MetricsCollector}
@@ -106,92 +108,74 @@ close_is ws conf p i prep f es ep ey eh ec eg ed ea et em er = rw (← es, ← e
 
 -- ---- refusals
 
-module _ (conf : PipelineConf) (slot : ℕ) (stop : Bool) (e : early_refusal conf slot stop ≡ 0) where
-  -- what an accepted opening of a round knows of the positions, and of its length
-  both : ((0 < size_of conf) × (size_of conf ≤ positions)) × (long_refusal conf.round slot ≡ 0)
-  unfolding early_refusal
-  both = by (eqb (size_of conf) 0) refl (ltb positions (size_of conf)) refl (is_done conf slot stop) e
-    where
-      positive : (n : ℕ) → (n ≡ 0 → ⊥) → 0 < n
-      positive n q = omega arith
-
-      by : (x : Bool) → eqb (size_of conf) 0 ≡ x → (y : Bool) → ltb positions (size_of conf) ≡ y → (z : Bool)
-          → either (x || y) bad_positions (either z stopped (long_refusal conf.round slot)) ≡ 0 → ((0 < size_of conf) × (size_of conf ≤ positions)) × (long_refusal conf.round slot ≡ 0)
-      by true p y q z h = absurd (let g : bad_positions ≡ 0 = h in omega arith)
-      by false p true q z h = absurd (let g : bad_positions ≡ 0 = h in omega arith)
-      by false p false q true h = absurd (let g : stopped ≡ 0 = h in omega arith)
-      by false p false q false h = ((positive (size_of conf) (eqb-false (size_of conf) 0 p), ltb-false positions (size_of conf) q), h)
-
+module _ (conf : PipelineConf) (slot : ℕ) (stop : Bool) (e : early_test conf slot stop ≡ Ok tt) where
+  -- what an accepted opening of a round knows of the positions, of the room, and of the round's length
   pub early_size : (0 < size_of conf) × (size_of conf ≤ positions)
-  early_size = both.0
+  unfolding early_test
+  early_size = size_parts (size_of conf) (first_held (size_test (size_of conf)) _ tt e)
+
+  rest : result_and (holds_or (not (is_done conf slot stop)) Stopped) (length_test conf.round slot) ≡ Ok tt
+  unfolding early_test
+  rest = second_held (size_test (size_of conf)) _ tt e
+
+  pub early_going : not (is_done conf slot stop) ≡ true
+  early_going = held (not (is_done conf slot stop)) Stopped (first_held (holds_or (not (is_done conf slot stop)) Stopped) (length_test conf.round slot) tt rest)
 
   pub early_length : slot + conf.round.length ≤ last_slot
-  early_length = length_fits conf.round slot both.1
+  early_length = length_fits conf.round slot (second_held (holds_or (not (is_done conf slot stop)) Stopped) (length_test conf.round slot) tt rest)
 
 module _ (ws : List ℕ) (numbers used : ℕ) (conf : PipelineConf) (w : Network) (p : PipelinePart) (cursor : ℕ) where
-  -- a round that is accepted is refused neither early nor late
-  pub refusal_none : round_refusal ws numbers used conf w p cursor ≡ 0 → (early_refusal conf w.slot p.stop ≡ 0) × (late_refusal ws numbers used conf w p cursor ≡ 0)
-  unfolding round_refusal
-  refusal_none h = by (eqb (early_refusal conf w.slot p.stop) 0) refl h
-    where
-      by : (b : Bool) → eqb (early_refusal conf w.slot p.stop) 0 ≡ b → either b (late_refusal ws numbers used conf w p cursor) (early_refusal conf w.slot p.stop) ≡ 0
-          → (early_refusal conf w.slot p.stop ≡ 0) × (late_refusal ws numbers used conf w p cursor ≡ 0)
-      by true e q = (eqb-true (early_refusal conf w.slot p.stop) 0 e, q)
-      by false e q = absurd (eqb-false (early_refusal conf w.slot p.stop) 0 e q)
-
-  refusal_early : (early_refusal conf w.slot p.stop ≡ 0 → ⊥) → round_refusal ws numbers used conf w p cursor ≡ early_refusal conf w.slot p.stop
-  unfolding round_refusal
-  refusal_early ne = rw (ne_eqb (early_refusal conf w.slot p.stop) 0 ne)
-
-  refusal_late : early_refusal conf w.slot p.stop ≡ 0 → round_refusal ws numbers used conf w p cursor ≡ late_refusal ws numbers used conf w p cursor
-  unfolding round_refusal
-  refusal_late z = rw (eq-eqb (early_refusal conf w.slot p.stop) 0 z)
+  -- a round that is accepted is refused neither early nor by its run
+  pub refusal_none : round_test ws numbers used conf w p cursor ≡ Ok tt → (early_test conf w.slot p.stop ≡ Ok tt) × (run_test ws numbers used conf w p cursor ≡ Ok tt)
+  unfolding round_test
+  refusal_none h = (first_held (early_test conf w.slot p.stop) (run_test ws numbers used conf w p cursor) tt h, second_held (early_test conf w.slot p.stop) (run_test ws numbers used conf w p cursor) tt h)
 
 module _ (ws rows : List ℕ) (used : ℕ) (conf : PipelineConf) (w : Network) (p : PipelinePart) (cursor : ℕ) where
   -- what is owed of the answer and of the buffer
   abbrev Owed : PipelineAnswer → List ℕ → Type 0
   Owed r final = (r ≡ round_answer ws (length rows) used conf w p cursor) × (final ≡ round_buffer ws rows used conf w p cursor)
 
-  refused_with_lem : {k : ℕ} {r : PipelineAnswer} → round_refusal ws (length rows) used conf w p cursor ≡ k → (k ≡ 0 → ⊥) → r ≡ refused_with k w p cursor used → Owed r rows
+  refused : (k : Refusal) → round_test ws (length rows) used conf w p cursor ≡ Err k → Owed (refused_with (Err k) w p cursor used) rows
   unfolding round_answer round_buffer
-  refused_with_lem {k} q ne e = (rw (q, ne_eqb k 0 ne) e, rw (q, ne_eqb k 0 ne))
+  refused k q = (rw q, rw q)
 
-  module _ {early : ℕ} (a : early ≡ early_refusal conf w.slot p.stop) where
-    pub refused_early : {r : PipelineAnswer} → (early ≡ 0 → ⊥) → r ≡ refused_with early w p cursor used → Owed r rows
-    refused_early ne e = refused_with_lem (refusal_early ws (length rows) used conf w p cursor (λ z. ne (a ∙ z)) ∙ sym a) ne e
+  pub refused_early : {k : Refusal} → Err k ≡ early_test conf w.slot p.stop → Owed (refused_with (Err k) w p cursor used) rows
+  unfolding round_test
+  refused_early {k} e = refused k (rw (← e))
 
-    module _ (z : early ≡ 0) {x : RoundRun} {due : ℕ} (v : RoundSurveyed ws conf w p (start_draw cursor) x due) {late : ℕ} (c : late ≡ late_of (length rows) used x.draw.short due) where
-      -- what is refused by the run that was made is refused by the whole one, and the other way round
-      whole : late ≡ late_refusal ws (length rows) used conf w p cursor
-      unfolding late_of late_refusal
-      whole = c ∙ by x.draw.short refl
-        where
-          all : List ℕ
-          all = rows_of_round ws conf w p (start_draw cursor)
+  module _ (a : Ok tt ≡ early_test conf w.slot p.stop) {x : RoundRun} {due : ℕ} (v : RoundSurveyed ws conf w p (start_draw cursor) x due) {late : Tested} (c : late ≡ late_test (length rows) used x.draw.short due) where
+    -- what is refused by the run that was made is refused by the whole one, and the other way round
+    whole : late ≡ run_test ws (length rows) used conf w p cursor
+    unfolding late_test run_test
+    whole = c ∙ by x.draw.short refl
+      where
+        all : List ℕ
+        all = rows_of_round ws conf w p (start_draw cursor)
 
-          by : (s : Bool) → x.draw.short ≡ s → late_of (length rows) used x.draw.short due ≡ late_of (length rows) used (run_round ws conf w p (start_draw cursor)).draw.short (length all / 5)
-          by true q = rw (← v.short, q)
-          by false q = let n : length all / 5 ≡ due = omega (arith, v.rows q) in rw (← v.short, n)
+        by : (s : Bool) → x.draw.short ≡ s → late_test (length rows) used x.draw.short due ≡ late_test (length rows) used (run_round ws conf w p (start_draw cursor)).draw.short (length all / 5)
+        by true q = rw (← v.short, q)
+        by false q = let n : length all / 5 ≡ due = omega (arith, v.rows q) in rw (← v.short, n)
 
-      told : round_refusal ws (length rows) used conf w p cursor ≡ late
-      told = refusal_late ws (length rows) used conf w p cursor (sym a ∙ z) ∙ sym whole
+    told : round_test ws (length rows) used conf w p cursor ≡ late
+    unfolding round_test
+    told = rw (← a) (sym whole)
 
-      pub refused_late : {r : PipelineAnswer} → (late ≡ 0 → ⊥) → r ≡ refused_with late w p cursor used → Owed r rows
-      refused_late ne e = refused_with_lem told ne e
+    pub refused_late : {k : Refusal} → Err k ≡ late → Owed (refused_with (Err k) w p cursor used) rows
+    refused_late {k} n = refused k (told ∙ sym n)
 
+    module _ (none : Ok tt ≡ late) where
       -- nothing is refused, so no word was missing, and the rows fit
-      pub fits_all : late ≡ 0 → (x.draw.short ≡ false) × ((used + due) * 5 ≤ length rows)
-      fits_all k = late_fits (length rows) used due x.draw.short (sym c ∙ k)
+      pub fits_all : (x.draw.short ≡ false) × ((used + due) * 5 ≤ length rows)
+      fits_all = late_fits (length rows) used due x.draw.short (sym c ∙ sym none)
 
-      pub due_all : late ≡ 0 → due * 5 ≡ length (rows_of_round ws conf w p (start_draw cursor))
-      due_all k = v.rows (fits_all k).0
+      pub due_all : due * 5 ≡ length (rows_of_round ws conf w p (start_draw cursor))
+      due_all = v.rows fits_all.0
 
-      pub accepted : {final : List ℕ} → late ≡ 0 → final ≡ sets rows (used * 5) (rows_of_round ws conf w p (start_draw cursor)) → Owed (accepted_with (used + due) x) final
+      pub accepted : {final : List ℕ} → final ≡ sets rows (used * 5) (rows_of_round ws conf w p (start_draw cursor)) → Owed (accepted_with (used + due) x) final
       unfolding round_answer round_buffer
-      accepted k e =
-          let n : length (rows_of_round ws conf w p (start_draw cursor)) / 5 ≡ due = omega (arith, due_all k) in
-          let none = eq-eqb (round_refusal ws (length rows) used conf w p cursor) 0 (told ∙ k) in
-          (rw (none, n, v.run (fits_all k).0), rw none e)
+      accepted e =
+          let n : length (rows_of_round ws conf w p (start_draw cursor)) / 5 ≡ due = omega (arith, due_all) in
+          (rw (told, ← none, n, v.run fits_all.0), rw (told, ← none) e)
 
 -- the rows that are due, written into the part that is lent for them
 pub part_whole : (rows l : List ℕ) (used due : ℕ) → due * 5 ≡ length l → (used + due) * 5 ≤ length rows

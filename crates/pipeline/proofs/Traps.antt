@@ -1,21 +1,22 @@
 -- RULES 10.5, 10.8 and 10.9, as laws over any state: nack 0 asks for nothing, an abort goes to its transaction
 -- only, and what a receiver judges enters no record. (Covered by bytes: Covering.) And a round is refused for nothing
 -- but what RULES 15 names. Assumes nothing.
-use Rattle.std.proofs.Common.{◌≡◌, ℕ, ◌+◌, ◌-◌, ◌*◌, ◌/◌, ◌<◌, ◌≤◌, Bool, false, ◌&&◌, ltb, List, refl, ◌∙◌, arith, le-ltb, lt-ltb, ne_eqb}
+use Rattle.std.proofs.Common.{◌≡◌, ℕ, ◌+◌, ◌-◌, ◌*◌, ◌/◌, ◌<◌, ◌≤◌, Bool, false, ◌&&◌, ltb, leb, true, Ok, List, refl, ◌∙◌, arith, le-ltb, lt-ltb, le-leb, ne_eqb}
 use lib.Ieee.{Float}
 use borrow.Author.Tests.{lt-leb}
 use Rattle.limits.specs.Limits.{last_slot}
+use Rattle.graph.specs.Links.{size_test}
 use Rattle.marks.specs.Marks.{has}
 use Rattle.marks.specs.Sets.{has_marks, or_false}
 use Rattle.merges.proofs.Safety.{either_cases}
 use Rattle.engines.specs.Marked.{with_mark}
-use Rattle.engines.specs.Network.{long_refusal, late_of}
+use Rattle.engines.specs.Network.{length_test, late_test}
 use Rattle.engines.specs.Rows.{rows_refused}
 use Rattle.engines.specs.declared.network.Network.{Network}
 use Rattle.pipeline.specs.Pending.{merge_abort, fast_of}
 use Rattle.pipeline.specs.Pipeline.{hear_new, merge_round, record_aborts, is_answer, answer_nack, process_one}
-use Rattle.pipeline.specs.Round.{size_of, run_round, due_of_round, is_done, early_refusal, start_draw, late_refusal}
-use Rattle.pipeline.specs.Round.{round_refusal}
+use Rattle.pipeline.specs.Round.{size_of, run_round, due_of_round, is_done, early_test, start_draw, run_test}
+use Rattle.pipeline.specs.Round.{round_test}
 use Rattle.pipeline.specs.declared.two_pc_pipeline.NodeTwoPcState.{NodeTwoPcState}
 use Rattle.pipeline.specs.declared.two_pc_pipeline.RoundPacket.{RoundPacket}
 use Rattle.pipeline.specs.declared.process.Carried.{Carried}
@@ -69,18 +70,17 @@ only_fast ws p facts rounds q i s l = answer_records q.nack _ _
 -- for its rows, is accepted.
 module _ (ws : List ℕ) (numbers used : ℕ) (conf : PipelineConf) (w : Network) (p : PipelinePart) (cursor : ℕ) where
   early_none : 0 < size_of conf → size_of conf ≤ 64 → p.stop ≡ false → w.slot < conf.bound
-      → w.slot + conf.round.length ≤ last_slot → early_refusal conf w.slot p.stop ≡ 0
-  unfolding early_refusal long_refusal
+      → w.slot + conf.round.length ≤ last_slot → early_test conf w.slot p.stop ≡ Ok tt
+  unfolding early_test size_test length_test
   early_none least most going before short =
       let on : is_done conf w.slot p.stop ≡ false = rw going (lt-leb conf.bound w.slot before) in
-      let fit : ltb last_slot (w.slot + conf.round.length) ≡ false =
-      le-ltb last_slot (w.slot + conf.round.length) short in
-      rw (ne_eqb (size_of conf) 0 (omega arith), le-ltb 64 (size_of conf) most, on, fit)
+      let fit : leb (w.slot + conf.round.length) last_slot ≡ true = le-leb (w.slot + conf.round.length) last_slot short in
+      rw (lt-ltb 0 (size_of conf) least, le-leb (size_of conf) 64 most, on, fit)
 
   late_none : (run_round ws conf w p (start_draw cursor)).draw.short ≡ false
       → (used + due_of_round ws conf w p (start_draw cursor)) * 5 ≤ numbers
-      → late_refusal ws numbers used conf w p cursor ≡ 0
-  unfolding late_refusal late_of rows_refused
+      → run_test ws numbers used conf w p cursor ≡ Ok tt
+  unfolding run_test late_test rows_refused
   late_none enough fit =
       let due = due_of_round ws conf w p (start_draw cursor) in
       rw (enough, le-ltb numbers (used * 5) (omega arith), le-ltb ((numbers - used * 5) / 5) due (omega arith))
@@ -88,7 +88,7 @@ module _ (ws : List ℕ) (numbers used : ℕ) (conf : PipelineConf) (w : Network
   pub accepted_else : 0 < size_of conf → size_of conf ≤ 64 → p.stop ≡ false → w.slot < conf.bound
       → w.slot + conf.round.length ≤ last_slot → (run_round ws conf w p (start_draw cursor)).draw.short ≡ false
       → (used + due_of_round ws conf w p (start_draw cursor)) * 5 ≤ numbers
-      → round_refusal ws numbers used conf w p cursor ≡ 0
-  unfolding round_refusal
+      → round_test ws numbers used conf w p cursor ≡ Ok tt
+  unfolding round_test
   accepted_else least most going before short enough fit =
       rw (early_none least most going before short) (late_none enough fit)

@@ -1,8 +1,10 @@
 -- A pipeline room holds valid packets only: those within the limits of a text. What is kept from round to round: no
 -- vote word has a mark at or behind the number of positions, no more than 64 transactions were generated, and what is
 -- piggybacked is a number of 64 bits. Assumes nothing.
-use Rattle.std.proofs.Common.{◌≡◌, ℕ, zero, suc, ◌^◌, ◌<◌, ◌≤◌, Bool, true, false, not, ◌&&◌, ◌||◌, eqb, ltb, leb, Option, Some, None, List, length, get_or, replicate, sym, refl, ◌∙◌, mod-lt, arith, length-set, pow_pos, ltb-false, ltb-true, ne_eqb, eqb-true}
+use Rattle.std.proofs.Common.{◌≡◌, ℕ, zero, suc, ◌^◌, ◌<◌, ◌≤◌, Bool, true, false, not, ◌&&◌, ◌||◌, eqb, ltb, leb, Option, Some, None, List, length, get_or, replicate, sym, refl, ◌∙◌, mod-lt, arith, length-set, pow_pos, ltb-false, ltb-true, ne_eqb}
 use Rattle.std.specs.Option.{unwrap_or}
+use Rattle.std.specs.Result.{is_ok}
+use Rattle.limits.proofs.Tests.{ok_told}
 use lib.Ieee.{Float}
 use Rattle.loops.specs.Stores.{set_all}
 use Rattle.loops.specs.Pick.{either}
@@ -30,7 +32,7 @@ use Rattle.pipeline.specs.Pipeline.{data_of, piggyback_tx, packet_of, is_fresh, 
 use Rattle.pipeline.specs.Pipeline.{round_packet, prepare_round, is_new, hear_new, merge_round, take_up, is_answer}
 use Rattle.pipeline.specs.Pipeline.{answer_nack, process_one, no_state, parts_of, process_at, process_all}
 use Rattle.pipeline.specs.Round.{no_packet, new_part, new_state, deliver_at, deliver_all, size_of, facts_of, initiator_of}
-use Rattle.pipeline.specs.Round.{preparing, processing, close_round, run_round, start_draw, round_refusal}
+use Rattle.pipeline.specs.Round.{preparing, processing, close_round, run_round, start_draw, round_test, PipelineAnswer}
 use Rattle.pipeline.specs.Round.{round_answer}
 use Rattle.pipeline.specs.declared.two_pc_pipeline.NodeTwoPcState.{NodeTwoPcState}
 use Rattle.pipeline.specs.declared.two_pc_pipeline.Outcome.{Outcome}
@@ -44,7 +46,6 @@ use Rattle.pipeline.specs.declared.process.Carried.{Carried}
 use Rattle.pipeline.specs.declared.process.RoundFacts.{RoundFacts}
 use Rattle.pipeline.specs.declared.pipeline.PipelineConf.{PipelineConf}
 use Rattle.pipeline.specs.declared.pipeline.PipelinePart.{PipelinePart}
-use Rattle.pipeline.specs.declared.pipeline.PipelineAnswer.{PipelineAnswer}
 use Rattle.pipeline.proofs.Rounding.{early_size, refusal_none}
 
 -- ---- lists and loops
@@ -425,9 +426,9 @@ pub answer_valid : (ws : List ℕ) (numbers used : ℕ) (conf : PipelineConf) (w
     → ValidPart (size_of conf) p → ValidPart (size_of conf) (round_answer ws numbers used conf w p cursor).part
 unfolding round_answer
 answer_valid ws numbers used conf w p cursor v =
-    let refusal = round_refusal ws numbers used conf w p cursor in
-    either_cases (λ (a : PipelineAnswer). ValidPart (size_of conf) a.part) (eqb refusal 0)
-    (λ e. let none = refusal_none ws numbers used conf w p cursor (eqb-true refusal 0 e) in
+    let told = round_test ws numbers used conf w p cursor in
+    either_cases (λ (a : PipelineAnswer). ValidPart (size_of conf) a.part) (is_ok told)
+    (λ e. let none = refusal_none ws numbers used conf w p cursor (ok_told told e) in
     let size = early_size conf w.slot p.stop none.0 in
     run_valid ws conf size.0 size.1 w p (start_draw cursor) v)
     (λ e. v)

@@ -1,19 +1,22 @@
 -- RULES 10.2, 10.4, 10.10, 10.11 and 7.6, and refusals 2 and 14 to 17 of RULES 15: one pipeline round. Assumes
 -- nothing.
-use Rattle.std.specs.Prelude.{◌≡◌, ℕ, ◌+◌, ◌*◌, ◌/◌, ◌%◌, ◌^◌, Bool, false, ◌&&◌, ◌||◌, None, List, length, replicate, ◌==◌, nat_le, nat_lt, slice_index_or, slice_set}
+use Rattle.std.specs.Prelude.{◌≡◌, ℕ, ◌+◌, ◌*◌, ◌/◌, ◌%◌, ◌^◌, Bool, false, not, ◌&&◌, ◌||◌, None, Ok, is_ok, List, length, replicate, nat_le, nat_lt, slice_index_or, slice_set}
 use Rattle.std.proofs.lemmas.List.Edits.{sets}
 use mir.Val.{bool_byte}
+use Rattle.std.specs.Result.{result_and}
 use Rattle.loops.specs.Pick.{either}
 use Rattle.loops.specs.Upto.{upto}
 use Rattle.marks.specs.Marks.{has}
-use Rattle.limits.specs.Limits.{positions, row_cells}
-use Rattle.limits.specs.Refusals.{bad_positions, stopped}
+use Rattle.limits.specs.Limits.{row_cells}
+use Rattle.limits.specs.Refusals.{Tested, holds_or}
+use Rattle.limits.specs.declared.refusals.Refusal.TheVariants.{Stopped}
+use Rattle.graph.specs.Links.{size_test}
 use Rattle.packets.specs.Packets.{pipeline_text, pipeline_within}
 use Rattle.packets.specs.Writing.{text_len}
 use Rattle.engines.specs.Clamp.{at_most64}
 use Rattle.engines.specs.Marked.{over_marks}
 use Rattle.engines.specs.Nodes.{inc, sets_of}
-use Rattle.engines.specs.Network.{with_nodes, long_refusal, late_of, or_else}
+use Rattle.engines.specs.Network.{with_nodes, length_test, late_test}
 use Rattle.flood.specs.Flood.{flood_start, flood_round, flood_rows}
 use Rattle.pipeline.specs.Pending.{no_entry, join_marks}
 use Rattle.pipeline.specs.declared.process.AllProcessed.{AllProcessed}
@@ -30,7 +33,6 @@ use Rattle.pipeline.specs.declared.process.RoundFacts.{RoundFacts}
 use Rattle.pipeline.specs.declared.pipeline.PipelineConf.{PipelineConf}
 use Rattle.pipeline.specs.declared.pipeline.PipelinePart.{PipelinePart}
 use Rattle.pipeline.specs.declared.pipeline.RoundRun.{RoundRun}
-use Rattle.pipeline.specs.declared.pipeline.PipelineAnswer.{PipelineAnswer}
 
 -- ---- who holds what
 
@@ -225,40 +227,48 @@ abbrev pub is_done : PipelineConf → ℕ → Bool → Bool
 is_done conf slot stop = stop || nat_le conf.bound slot
 
 -- 2: the positions. 15: the full length passes the last slot.
-unfoldable pub early_refusal : PipelineConf → ℕ → Bool → ℕ
-early_refusal conf slot stop =
-    either (size_of conf == 0 || nat_lt positions (size_of conf)) bad_positions
-    (either (is_done conf slot stop) stopped (long_refusal conf.round slot))
+unfoldable pub early_test : PipelineConf → ℕ → Bool → Tested
+early_test conf slot stop =
+    result_and (size_test (size_of conf))
+    (result_and (holds_or (not (is_done conf slot stop)) Stopped) (length_test conf.round slot))
 
 abbrev pub start_draw : ℕ → Draw
 start_draw cursor = record { at = cursor; short = false }
 
 -- 16: some draw of the run found no word. 17: its rows do not fit behind those used.
-unfoldable pub late_refusal : List ℕ → ℕ → ℕ → PipelineConf → Network → PipelinePart → ℕ → ℕ
-late_refusal ws numbers used conf w p cursor =
+unfoldable pub run_test : List ℕ → ℕ → ℕ → PipelineConf → Network → PipelinePart → ℕ → Tested
+run_test ws numbers used conf w p cursor =
     let d = start_draw cursor in
-    late_of numbers used (run_round ws conf w p d).draw.short (due_of_round ws conf w p d)
+    late_test numbers used (run_round ws conf w p d).draw.short (due_of_round ws conf w p d)
 
-unfoldable pub round_refusal : List ℕ → ℕ → ℕ → PipelineConf → Network → PipelinePart → ℕ → ℕ
-round_refusal ws numbers used conf w p cursor =
-    or_else (early_refusal conf w.slot p.stop) (late_refusal ws numbers used conf w p cursor)
+unfoldable pub round_test : List ℕ → ℕ → ℕ → PipelineConf → Network → PipelinePart → ℕ → Tested
+round_test ws numbers used conf w p cursor =
+    result_and (early_test conf w.slot p.stop) (run_test ws numbers used conf w p cursor)
 
-abbrev pub refused_with : ℕ → Network → PipelinePart → ℕ → ℕ → PipelineAnswer
-refused_with k w p cursor used = record { refusal = k; cursor = cursor; used = used; network = w; part = p }
+-- what a round tells, and what it leaves: the cursor, how many rows are used, and the room
+pub record PipelineAnswer : Type 0 where
+  pub told : Tested
+  pub cursor : ℕ
+  pub used : ℕ
+  pub network : Network
+  pub part : PipelinePart
+
+abbrev pub refused_with : Tested → Network → PipelinePart → ℕ → ℕ → PipelineAnswer
+refused_with t w p cursor used = record { told = t; cursor = cursor; used = used; network = w; part = p }
 
 abbrev pub accepted_with : ℕ → RoundRun → PipelineAnswer
-accepted_with used x = record { refusal = 0; cursor = x.draw.at; used = used; network = x.network; part = x.part }
+accepted_with used x = record { told = Ok tt; cursor = x.draw.at; used = used; network = x.network; part = x.part }
 
--- A refused call hands back the room, the cursor and the number of rows used as they were.
+-- A refused call leaves the room, the cursor and the number of rows used as they were.
 unfoldable pub round_answer : List ℕ → ℕ → ℕ → PipelineConf → Network → PipelinePart → ℕ → PipelineAnswer
 round_answer ws numbers used conf w p cursor =
-    either (round_refusal ws numbers used conf w p cursor == 0)
+    either (is_ok (round_test ws numbers used conf w p cursor))
     (accepted_with (used + due_of_round ws conf w p (start_draw cursor)) (run_round ws conf w p (start_draw cursor)))
-    (refused_with (round_refusal ws numbers used conf w p cursor) w p cursor used)
+    (refused_with (round_test ws numbers used conf w p cursor) w p cursor used)
 
 -- .. and the buffer too; an accepted one puts its rows behind those used.
 unfoldable pub round_buffer : List ℕ → List ℕ → ℕ → PipelineConf → Network → PipelinePart → ℕ → List ℕ
 round_buffer ws rows used conf w p cursor =
-    either (round_refusal ws (length rows) used conf w p cursor == 0)
+    either (is_ok (round_test ws (length rows) used conf w p cursor))
     (sets rows (used * row_cells) (rows_of_round ws conf w p (start_draw cursor)))
     rows

@@ -3,7 +3,6 @@ ghost use Rattle.std.specs.Prelude.{◌≡◌};
 ghost use Rattle.pipeline.specs.Pending.{logged_of, outcome_of, pushed};
 
 use super::two_pc_pipeline::{LogEntry, TxLog};
-use engines::clamp;
 use graph::sets;
 
 // The transactions of a log, a mark each.
@@ -12,7 +11,7 @@ pub fn logged(g: TxLog) -> u64
     ensures { result ≡ logged_of g }
 {
     let mut m: u64 = 0;
-    for e in &g.entries[..clamp::at_most_64(g.len)] {
+    for e in &g.entries[..g.len.min(limits::POSITIONS)] {
         m = sets::with_mark(m, e.tx as usize);
     }
     m
@@ -23,7 +22,7 @@ pub fn logged(g: TxLog) -> u64
 pub fn outcome(g: TxLog, t: usize) -> bool
     ensures { result ≡ outcome_of g t }
 {
-    for e in &g.entries[..clamp::at_most_64(g.len)] {
+    for e in &g.entries[..g.len.min(limits::POSITIONS)] {
         if e.tx as usize == t {
             return e.committed;
         }

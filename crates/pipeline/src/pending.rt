@@ -7,8 +7,8 @@ ghost use Rattle.pipeline.specs.Pending.{join_marks, common_marks, without_mark,
 
 use super::logs;
 use super::two_pc_pipeline::{NodeTwoPcState, Vote};
+use engines::words;
 use engines::words::Draw;
-use engines::{clamp, words};
 use graph::sets;
 
 // The set operations, each as the set that its rule names.
@@ -92,6 +92,7 @@ pub fn open_tx(s: NodeTwoPcState, t: usize, bits: u64, abort: bool) -> NodeTwoPc
     }
 }
 
+// Transaction t is below 64, as its loop has it: a test would need an answer for what never comes.
 #[tactic(auto, unfolding(crate::specs::Pending::votes_at))]
 fn join_at(votes: &mut [u64; 64], t: usize, top: usize, bits: u64)
     requires { t < 64 }
@@ -151,7 +152,7 @@ pub fn detect_gap(s: NodeTwoPcState, current: usize) -> Option<usize>
     ensures { result ≡ gap_of current s }
 {
     let known = join(logs::logged(s.log), s.pending);
-    for t in 0..clamp::at_most_64(current) {
+    for t in 0..current.min(limits::POSITIONS) {
         if !sets::is_marked(known, t) {
             return Some(t);
         }

@@ -1,14 +1,14 @@
 // RULES 10.11. A pipeline room, and a call of one round of it, from sim/pipeline.rs: a round that is refused changes
 // nothing.
 ghost use Rattle.std.specs.Prelude.{◌≡◌, length};
-ghost use Rattle.pipeline.specs.Round.{new_part, early_refusal, round_answer, round_buffer, refused_with};
+ghost use Rattle.pipeline.specs.Round.{new_part, early_test, round_answer, round_buffer};
 
 use super::round::RoundStart;
 use super::two_pc_pipeline::{LogEntry, NodeTwoPcState, Outcome, Records, RoundPacket, TxLog, Txs};
 use engines::network;
 use engines::network::{Network, RoundConf};
 use engines::words::Draw;
-use limits::refusals;
+use limits::refusals::Refusal;
 
 // What is fixed when a room is opened: what its rounds go by, the number of transactions, and the slot bound.
 #[derive(Clone, Copy)]
@@ -39,16 +39,6 @@ pub struct RoundRun {
     pub network: Network,
     pub part: PipelinePart,
     pub draw: Draw,
-}
-
-// The refusal's number (RULES 15; 0: none), the cursor, how many rows are used, and the room; the old ones if refused.
-#[derive(Clone, Copy)]
-pub struct PipelineAnswer {
-    pub refusal: u64,
-    pub cursor: usize,
-    pub used: usize,
-    pub network: Network,
-    pub part: PipelinePart,
 }
 
 impl PipelinePart {
@@ -98,73 +88,50 @@ impl PipelinePart {
 }
 
 // Refusals 2, 14 and 15, for which the round need not be run.
-#[tactic(auto, unfolding(crate::specs::Round::early_refusal))]
-pub fn early_refusal(conf: PipelineConf, slot: u64, stop: bool) -> u64
-    ensures { result ≡ early_refusal conf slot stop }
+#[tactic(auto, unfolding(crate::specs::Round::early_test))]
+pub fn check_early(conf: PipelineConf, slot: u64, stop: bool) -> Result<(), Refusal>
+    ensures { result ≡ early_test conf slot stop }
 {
-    if conf.round.graph.n == 0 || conf.round.graph.n > limits::POSITIONS {
-        return refusals::BAD_POSITIONS;
-    }
+    graph::network::check_size(conf.round.graph.n)?;
     if stop || conf.bound <= slot {
-        return refusals::STOPPED;
+        return Err(Refusal::Stopped);
     }
-    network::long_refusal(conf.round, slot)
+    network::check_length(conf.round, slot)
 }
 
-fn refused(refusal: u64, w: Network, p: PipelinePart, cursor: usize, used: usize) -> PipelineAnswer
-    ensures { result ≡ refused_with refusal w p cursor used }
-{
-    PipelineAnswer {
-        refusal,
-        cursor,
-        used,
-        network: w,
-        part: p,
-    }
-}
-
-// One pipeline round. It is run without its rows first, so that whether it is refused is known before any number that
-// was lent is touched; and once more only if a row is due.
+// One pipeline round; a refused one changes nothing. It is run without its rows first, so that whether it is refused is
+// known before any number that was lent is touched; and once more only if a row is due.
 pub fn pipeline_round(
     words: &[u64],
-    cursor: usize,
+    cursor: &mut usize,
     rows: &mut [u64],
-    used: usize,
+    used: &mut usize,
     conf: PipelineConf,
-    w: Network,
-    p: PipelinePart,
-) -> PipelineAnswer
-    ensures value { result ≡ round_answer words.now (length rows.old) used conf w p cursor }
-    ensures rows_after { rows.new ≡ round_buffer words.now rows.old used conf w p cursor }
+    w: &mut Network,
+    p: &mut PipelinePart,
+) -> Result<(), Refusal>
+    ensures value { record { told = result; cursor = cursor.new; used = used.new; network = w.new; part = p.new } ≡ round_answer words.now (length rows.old) used.old conf w.old p.old cursor.old }
+    ensures rows_after { rows.new ≡ round_buffer words.now rows.old used.old conf w.old p.old cursor.old }
 {
-    let early = early_refusal(conf, w.slot, p.stop);
-    if early != 0 {
-        return refused(early, w, p, cursor, used);
-    }
-    let d = Draw {
-        at: cursor,
-        short: false,
-    };
+    check_early(conf, w.slot, p.stop)?;
     let start = RoundStart {
         words,
         conf,
-        network: w,
-        part: p,
-        draw: d,
+        network: *w,
+        part: *p,
+        draw: Draw {
+            at: *cursor,
+            short: false,
+        },
     };
     let x = start.run();
     let run = x.run;
-    let late = network::late_refusal(run.draw.short, x.due, rows.len(), used);
-    if late != 0 {
-        return refused(late, w, p, cursor, used);
-    }
+    network::check_late(run.draw.short, x.due, rows.len(), *used)?;
     let due = x.due as usize;
-    start.write_due(rows, used, due);
-    PipelineAnswer {
-        refusal: 0,
-        cursor: run.draw.at,
-        used: used + due,
-        network: run.network,
-        part: run.part,
-    }
+    start.write_due(rows, *used, due);
+    *cursor = run.draw.at;
+    *used += due;
+    *w = run.network;
+    *p = run.part;
+    Ok(())
 }

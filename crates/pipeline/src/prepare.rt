@@ -62,7 +62,7 @@ fn old_tx(txs: Txs, s: NodeTwoPcState, d: Draw) -> Begun
     }
 }
 
-// The next transaction, with the initiator's vote on it.
+// The next transaction, with the initiator's vote on it. That there is room for it is what `begin_tx` has just tested.
 fn new_tx(voter: &Voter, facts: RoundFacts, txs: Txs, s: NodeTwoPcState, d: Draw) -> Begun
     requires { txs.counter < 64 }
     ensures { result ≡ new_tx facts.round facts.slot txs s (vote_of voter.now.words.now voter.now.abort_probability voter.now.position 0 false d) }
@@ -103,6 +103,7 @@ fn begin_tx(
     new_tx(voter, facts, txs, s, d)
 }
 
+// Transaction t is below 64, as its loop has it.
 #[tactic(auto, unfolding(crate::specs::Pipeline::record_due))]
 fn record_due(
     facts: RoundFacts,

@@ -5,7 +5,7 @@ ghost use Rattle.pipeline.specs.Pipeline.{is_new, hear_new, merge_round, record_
 use super::pending::Voter;
 use super::two_pc_pipeline::{NodeTwoPcState, Outcome, Records, RoundPacket};
 use super::{logs, pending, prepare};
-use engines::clamp;
+use engines::node;
 use engines::node::Node;
 use engines::words::Draw;
 use graph::sets;
@@ -195,7 +195,7 @@ pub fn shortest_log(states: [NodeTwoPcState; 64], n: usize) -> usize
     ensures { result ≡ shortest_log n states }
 {
     let mut shortest: usize = 64;
-    for s in &states[..clamp::at_most_64(n)] {
+    for s in &states[..n.min(limits::POSITIONS)] {
         shortest = shortest.min(s.log.len);
     }
     shortest
@@ -211,8 +211,7 @@ fn progress(v: Node, done: u64, goal: bool) -> Node
     }
 }
 
-// Everybody's progress, and whether its own log is complete.
-#[tactic(auto, using(crate::proofs::Turns::turns), unfolding(crate::specs::Pipeline::progress_at, crate::specs::Pipeline::progress_all))]
+// Everybody's progress, and whether its own log is complete. (64 places and n: see engines src/node.rt.)
 pub fn progress_all(
     at: [Node; 64],
     n: usize,
@@ -222,12 +221,9 @@ pub fn progress_all(
 ) -> [Node; 64]
     ensures { result ≡ progress_all n num_txs done states at }
 {
-    let mut a = at;
-    for i in 0..clamp::at_most_64(n) {
-        let goal = num_txs <= states[i].log.len;
-        a[i] = progress(a[i], done as u64, goal);
-    }
-    a
+    node::change_all(at, n, |i, v| {
+        progress(v, done as u64, num_txs <= states[i].log.len)
+    })
 }
 
 // All have all, and all were generated; or it has idled too long. Written so that no sum can wrap.

@@ -16,8 +16,8 @@ use super::two_pc_pipeline::RoundPacket;
 use super::{packet, pending, prepare, process};
 use engines::metrics::MetricsCollector;
 use engines::network::Network;
+use engines::node;
 use engines::words::Draw;
-use engines::{clamp, node};
 use flood::flood::FloodRun;
 use graph::sets;
 use packets::two_pc_pipeline;
@@ -57,7 +57,7 @@ fn count_covered(q: RoundPacket, n: usize, holding: u64, payloads: [RoundPacket;
     ensures { result ≡ covered_of q n holding payloads }
 {
     let mut covered: u64 = 0;
-    for i in 0..clamp::at_most_64(n) {
+    for i in 0..n.min(limits::POSITIONS) {
         if sets::is_marked(holding, i) && payloads[i] == q {
             covered = covered.wrapping_add(1);
         }
@@ -231,22 +231,22 @@ impl RoundStart<'_> {
         let prep = self.prepare();
         let bytes = packet_bytes(self.conf, prep.packet);
         let start = flood_from(self.conf, self.network, self.initiator(), prep.draw);
-        let f = flood::flood::flood_identical_round(self.words, self.conf.round, bytes, start);
-        if f.short {
-            let draw = Draw {
-                at: self.draw.at,
-                short: true,
-            };
-            let run = RoundRun {
-                network: self.network,
-                part: self.part,
-                draw,
-            };
-            return RoundSurvey { run, due: 0 };
-        }
-        RoundSurvey {
-            run: self.close(prep, f.run),
-            due: f.due,
+        match flood::flood::flood_identical_round(self.words, self.conf.round, bytes, start) {
+            Some(f) => RoundSurvey {
+                run: self.close(prep, f.run),
+                due: f.due,
+            },
+            None => RoundSurvey {
+                run: RoundRun {
+                    network: self.network,
+                    part: self.part,
+                    draw: Draw {
+                        at: self.draw.at,
+                        short: true,
+                    },
+                },
+                due: 0,
+            },
         }
     }
 
@@ -260,7 +260,8 @@ impl RoundStart<'_> {
         flood::flood::write_rows(self.words, self.conf.round, bytes, part, start);
     }
 
-    // The rows of an accepted round, if any is due.
+    // The rows of an accepted round, if any is due; that they fit is what the round has just tested. (C lends a buffer
+    // and says how much of it is used: so these two go together from call to call.)
     pub fn write_due(&self, rows: &mut [u64], used: usize, due: usize)
         requires are_due { due * row_cells ≡ length (rows_of_round self.now.words.now self.now.conf self.now.network self.now.part self.now.draw) }
         requires fit { (used + due) * row_cells ≤ length rows.old }

@@ -1,6 +1,6 @@
 -- RULES 17, entries on slices and numbers: a pipeline room as a lent list of numbers. A place
 -- past the end reads as 0, and nothing is put there. Assumes nothing.
-use Rattle.std.specs.Prelude.{ℕ, ◌+◌, ◌*◌, ◌%◌, false, Option, Some, None, List, [], ◌∷◌, ◌==◌, nat_lt, slice_index, slice_index_or, slice_set, Float}
+use Rattle.std.specs.Prelude.{ℕ, ◌+◌, ◌*◌, ◌%◌, false, Option, Some, None, Ok, List, [], ◌∷◌, ◌==◌, nat_lt, slice_index, slice_index_or, slice_set, Float}
 use Rattle.std.proofs.lemmas.List.Edits.{sets}
 use mir.Val.{bool_byte}
 use Rattle.loops.specs.Pick.{either}
@@ -20,6 +20,7 @@ use Rattle.pipeline.specs.declared.two_pc_pipeline.Records.{Records}
 use Rattle.pipeline.specs.declared.two_pc_pipeline.Txs.{Txs}
 use Rattle.pipeline.specs.declared.pipeline.PipelinePart.{PipelinePart}
 use Rattle.pipeline.specs.declared.pipeline.PipelineConf.{PipelineConf}
+use Rattle.pipeline_c.specs.Play.{Playing}
 use Rattle.pipeline_c.specs.declared.rounds.Played.{Played}
 
 -- ---- from numbers
@@ -84,13 +85,16 @@ part_at xs =
 unfoldable pub played_at : List ℕ → Played
 played_at xs =
     record {
-      refusal = 0;
       cursor = slice_index xs 6;
       used = slice_index xs 5;
       count = 0;
       network = network_at xs 3 7 277;
       part = part_at xs;
     }
+
+-- before a round is played on such a room, with this buffer
+abbrev pub playing_at : List ℕ → List ℕ → Playing
+playing_at rows xs = record { told = Ok tt; rows = rows; played = played_at xs }
 
 -- ---- to numbers
 
@@ -157,7 +161,7 @@ put_played t xs = put_part t.part t.cursor t.used (put_network 3 7 277 t.network
 
 -- A room as opened, with no row used and no word drawn.
 abbrev pub opened : Played
-opened = record { refusal = 0; cursor = 0; used = 0; count = 0; network = new_network; part = new_part }
+opened = record { cursor = 0; used = 0; count = 0; network = new_network; part = new_part }
 
 -- The settings that a pipeline reads; the others are 0.
 unfoldable pub conf_by : List ℕ → ℕ → ℕ → Float → Float → ℕ → ℕ → ℕ → ℕ → PipelineConf

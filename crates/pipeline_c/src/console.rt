@@ -11,10 +11,11 @@
 // more if it was committed.
 ghost use Rattle.std.specs.Prelude.{◌≡◌, [], ◌∷◌, ◌+◌, ◌*◌, ◌<◌, ◌≤◌, slice_index};
 ghost use Rattle.std.proofs.lemmas.List.Edits.{sets};
+ghost use Rattle.limits.specs.Refusals.{answer_of};
 ghost use Rattle.engines_c.specs.Numbers.{truth};
 ghost use Rattle.flood.specs.Flood.{flood_length};
 ghost use Rattle.pipeline_c.specs.Play.{play_rounds};
-ghost use Rattle.pipeline_c.specs.Console.{entry_numbered, entry_number, log_at, log_numbers, put_log, words_at, state_at, states_at, put_state, put_states, piggyback_numbered, piggyback_there, piggyback_number, piggyback_outcome, packet_at, packets_at, packet_numbers, put_packets, txs_at, records_at, part_at, played_at, clock_numbers, head_numbers, put_head, put_txs, put_part, put_played, conf_by, left_in, opened};
+ghost use Rattle.pipeline_c.specs.Console.{entry_numbered, entry_number, log_at, log_numbers, put_log, words_at, state_at, states_at, put_state, put_states, piggyback_numbered, piggyback_there, piggyback_number, piggyback_outcome, packet_at, packets_at, packet_numbers, put_packets, txs_at, records_at, part_at, played_at, playing_at, clock_numbers, head_numbers, put_head, put_txs, put_part, put_played, conf_by, left_in, opened};
 
 use super::rounds;
 use super::rounds::Played;
@@ -22,6 +23,7 @@ use engines::network::{Network, RoundConf};
 use engines::settings::Settings;
 use engines_c::numbers;
 use graph::network::NetworkGraph;
+use limits::refusals;
 use pipeline::pipeline::{PipelineConf, PipelinePart};
 use pipeline::two_pc_pipeline::{
     LogEntry, NodeTwoPcState, Outcome, Records, RoundPacket, TxLog, Txs,
@@ -40,7 +42,7 @@ fn entry_numbered(k: u64) -> LogEntry
     }
 }
 
-// The log that starts at a place.
+// The log that starts at a place. (List and place are passed on as in engines_c src/numbers.rt.)
 fn log_of(xs: &[u64], at: usize) -> TxLog
     requires { at ≤ 10000 }
     ensures { result ≡ log_at xs.now at }
@@ -156,7 +158,6 @@ fn played_of(xs: &[u64]) -> Played
     ensures { result ≡ played_at xs.now }
 {
     Played {
-        refusal: 0,
         cursor: numbers::number(xs, 6) as usize,
         used: numbers::number(xs, 5) as usize,
         count: 0,
@@ -317,7 +318,6 @@ pub extern "C" fn pipeline_open(state: &mut [u64])
     ensures { state.new ≡ put_played opened state.old }
 {
     let opened = Played {
-        refusal: 0,
         cursor: 0,
         used: 0,
         count: 0,
@@ -396,9 +396,9 @@ pub extern "C" fn pipeline_rounds(
     bound: u64,
     rounds: u64,
 ) -> u64
-    ensures value { result ≡ (play_rounds words.now (conf_by links.now n transactions loss_rate abort_probability repeats length interval bound) rounds (record { rows = rows.entry.now; played = played_at state.old })).played.refusal }
-    ensures rows_value { rows.exit.now ≡ (play_rounds words.now (conf_by links.now n transactions loss_rate abort_probability repeats length interval bound) rounds (record { rows = rows.entry.now; played = played_at state.old })).rows }
-    ensures state_after { state.new ≡ left_in (play_rounds words.now (conf_by links.now n transactions loss_rate abort_probability repeats length interval bound) rounds (record { rows = rows.entry.now; played = played_at state.old })).played state.old }
+    ensures value { result ≡ answer_of (play_rounds words.now (conf_by links.now n transactions loss_rate abort_probability repeats length interval bound) rounds (playing_at rows.old state.old)).told }
+    ensures rows_value { rows.new ≡ (play_rounds words.now (conf_by links.now n transactions loss_rate abort_probability repeats length interval bound) rounds (playing_at rows.old state.old)).rows }
+    ensures state_after { state.new ≡ left_in (play_rounds words.now (conf_by links.now n transactions loss_rate abort_probability repeats length interval bound) rounds (playing_at rows.old state.old)).played state.old }
 {
     let conf = conf_of(
         links,
@@ -411,11 +411,11 @@ pub extern "C" fn pipeline_rounds(
         interval,
         bound,
     );
-    let start = played_of(state);
-    let t = rounds::play_rounds(words, rows, conf, start, rounds);
+    let mut t = played_of(state);
+    let told = rounds::play_rounds(words, rows, conf, &mut t, rounds);
     if t.count == 0 {
-        return t.refusal;
+        return refusals::answer(told);
     }
     put_played(state, t);
-    t.refusal
+    refusals::answer(told)
 }

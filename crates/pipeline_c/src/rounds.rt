@@ -1,15 +1,15 @@
 // RULES 17. Rounds one after the other, up to the first that is refused.
-ghost use Rattle.std.specs.Prelude.{◌≡◌};
-ghost use Rattle.pipeline_c.specs.Play.{count_after, noted, play_round, play_rounds};
+ghost use Rattle.std.specs.Prelude.{◌≡◌, Ok};
+ghost use Rattle.pipeline_c.specs.Play.{play_round, play_rounds};
 
 use engines::network::Network;
+use limits::refusals::Refusal;
 use pipeline::pipeline as pipes;
-use pipeline::pipeline::{PipelineAnswer, PipelineConf, PipelinePart};
+use pipeline::pipeline::{PipelineConf, PipelinePart};
 
-// The last round's refusal (0: none), the cursor, the rows used, how many rounds were accepted, and the room.
+// Where rounds have come to: the cursor, the rows used, how many rounds were accepted, and the room.
 #[derive(Clone, Copy)]
 pub struct Played {
-    pub refusal: u64,
     pub cursor: usize,
     pub used: usize,
     pub count: u64,
@@ -17,36 +17,27 @@ pub struct Played {
     pub part: PipelinePart,
 }
 
-#[tactic(auto, unfolding(crate::specs::Play::count_after))]
-fn count_after(count: u64, refusal: u64) -> u64
-    ensures { result ≡ count_after count refusal }
+#[tactic(auto, unfolding(crate::specs::Play::play_round, crate::specs::Play::count_after))]
+fn play_round(
+    words: &[u64],
+    rows: &mut [u64],
+    conf: PipelineConf,
+    t: &mut Played,
+) -> Result<(), Refusal>
+    ensures { record { told = result; rows = rows.new; played = t.new } ≡ play_round words.now conf (record { told = Ok tt; rows = rows.old; played = t.old }) }
 {
-    if refusal == 0 {
-        return std::num::wrapping_add_u64(count, 1);
-    }
-    count
-}
-
-#[tactic(auto, unfolding(crate::specs::Play::noted))]
-fn note(count: u64, a: PipelineAnswer) -> Played
-    ensures { result ≡ noted count a }
-{
-    Played {
-        refusal: a.refusal,
-        cursor: a.cursor,
-        used: a.used,
-        count: count_after(count, a.refusal),
-        network: a.network,
-        part: a.part,
-    }
-}
-
-#[tactic(auto, unfolding(crate::specs::Play::play_round))]
-fn play_round(words: &[u64], rows: &mut [u64], conf: PipelineConf, t: Played) -> Played
-    ensures { record { rows = rows.exit.now; played = result } ≡ play_round words.now conf (record { rows = rows.entry.now; played = t }) }
-{
-    let a = pipes::pipeline_round(words, t.cursor, rows, t.used, conf, t.network, t.part);
-    note(t.count, a)
+    let w = &mut t.network;
+    pipes::pipeline_round(
+        words,
+        &mut t.cursor,
+        rows,
+        &mut t.used,
+        conf,
+        w,
+        &mut t.part,
+    )?;
+    t.count = t.count.wrapping_add(1);
+    Ok(())
 }
 
 // At most so many rounds.
@@ -54,17 +45,13 @@ pub fn play_rounds(
     words: &[u64],
     rows: &mut [u64],
     conf: PipelineConf,
-    start: Played,
+    t: &mut Played,
     rounds: u64,
-) -> Played
-    ensures { record { rows = rows.exit.now; played = result } ≡ play_rounds words.now conf rounds (record { rows = rows.entry.now; played = start }) }
+) -> Result<(), Refusal>
+    ensures { record { told = result; rows = rows.new; played = t.new } ≡ play_rounds words.now conf rounds (record { told = Ok tt; rows = rows.old; played = t.old }) }
 {
-    let mut t = start;
     for _round in 0..rounds {
-        if t.refusal != 0 {
-            return t;
-        }
-        t = play_round(words, rows, conf, t);
+        play_round(words, rows, conf, t)?;
     }
-    t
+    Ok(())
 }

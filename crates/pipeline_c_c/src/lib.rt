@@ -2,10 +2,11 @@
 #![tactic(auto)]
 
 ghost use Rattle.std.specs.Prelude.{◌≡◌};
+ghost use Rattle.limits.specs.Refusals.{answer_of};
 ghost use Rattle.engines_c.specs.Numbers.{truth};
 ghost use Rattle.flood.specs.Flood.{flood_length};
 ghost use Rattle.pipeline_c.specs.Play.{play_rounds};
-ghost use Rattle.pipeline_c.specs.Console.{played_at, put_played, conf_by, left_in, opened};
+ghost use Rattle.pipeline_c.specs.Console.{playing_at, put_played, conf_by, left_in, opened};
 
 // A room as opened, no rows used, and the cursor at the first word.
 #[unsafe(no_mangle)]
@@ -46,9 +47,9 @@ pub extern "C" fn pipeline_rounds(
     bound: u64,
     rounds: u64,
 ) -> u64
-    ensures value { result ≡ (play_rounds words.now (conf_by links.now n transactions loss_rate abort_probability repeats length interval bound) rounds (record { rows = rows.entry.now; played = played_at state.old })).played.refusal }
-    ensures rows_value { rows.exit.now ≡ (play_rounds words.now (conf_by links.now n transactions loss_rate abort_probability repeats length interval bound) rounds (record { rows = rows.entry.now; played = played_at state.old })).rows }
-    ensures state_after { state.new ≡ left_in (play_rounds words.now (conf_by links.now n transactions loss_rate abort_probability repeats length interval bound) rounds (record { rows = rows.entry.now; played = played_at state.old })).played state.old }
+    ensures value { result ≡ answer_of (play_rounds words.now (conf_by links.now n transactions loss_rate abort_probability repeats length interval bound) rounds (playing_at rows.old state.old)).told }
+    ensures rows_value { rows.new ≡ (play_rounds words.now (conf_by links.now n transactions loss_rate abort_probability repeats length interval bound) rounds (playing_at rows.old state.old)).rows }
+    ensures state_after { state.new ≡ left_in (play_rounds words.now (conf_by links.now n transactions loss_rate abort_probability repeats length interval bound) rounds (playing_at rows.old state.old)).played state.old }
 {
     pipeline_c::console::pipeline_rounds(
         state,

@@ -15,6 +15,7 @@ use engines::node::Node;
 use engines::settings::Settings;
 use graph::network::NetworkGraph;
 use graph::sets;
+use limits::refusals;
 use limits::refusals::Refusal;
 use pipeline::pipeline::{PipelineConf, PipelinePart};
 use pipeline::two_pc_pipeline::{LogEntry, NodeTwoPcState, Records, TxLog, Txs};
@@ -102,7 +103,6 @@ impl Asked {
     // Nobody has played yet, but words and rows may have been used before.
     fn opened(&self) -> Played {
         Played {
-            refusal: 0,
             cursor: self.cursor as usize,
             used: self.used as usize,
             count: 0,
@@ -244,7 +244,7 @@ fn sum_up(nodes: &[Node], n: usize) -> Sums {
     nodes.iter().take(n).fold(none, |sums, v| sums.with(v))
 }
 
-fn say_counts(rt: &impl Print, t: &Played, n: usize) -> io::Result<()> {
+fn say_counts(rt: &impl Print, refusal: u64, t: &Played, n: usize) -> io::Result<()> {
     let m = t.network.metrics;
     let s = sum_up(&t.network.nodes, n);
     let told = [
@@ -262,7 +262,7 @@ fn say_counts(rt: &impl Print, t: &Played, n: usize) -> io::Result<()> {
         m.rx_success,
         m.flood_nodes_covered,
     ];
-    print!(rt; "{}", t.refusal)?;
+    print!(rt; "{refusal}")?;
     for x in told {
         print!(rt; " {x}")?;
     }
@@ -292,8 +292,9 @@ fn play(rt: &(impl Print + AllocGlobal), graph: NetworkGraph, asked: Asked) -> R
     let words = words_of(rt.alloc(), asked.seed, asked.words)?;
     let mut rows = vec![in rt.alloc(); 0; asked.numbers as usize]?;
     let conf = asked.conf(graph);
-    let played = rounds::play_rounds(&words, &mut rows, conf, asked.opened(), asked.most);
-    say_counts(rt, &played, graph.n)?;
+    let mut played = asked.opened();
+    let told = rounds::play_rounds(&words, &mut rows, conf, &mut played, asked.most);
+    say_counts(rt, refusals::answer(told), &played, graph.n)?;
     print!(rt;
         " {}",
         digest_of(&played, graph.n, &rows, asked.used as usize)
@@ -312,9 +313,5 @@ fn answer(rt: &(impl Print + AllocGlobal), question: &[u64]) -> Result<()> {
 }
 
 fn main(rt: HostRuntime) -> Result<()> {
-    for line in rt.lines(rt.alloc()) {
-        let question = case_lines::numbers(rt.alloc(), line?.as_str())?;
-        answer(&rt, &question)?;
-    }
-    Ok(())
+    case_lines::answer_lines(&rt, |question| answer(&rt, question))
 }

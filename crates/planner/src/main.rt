@@ -33,7 +33,8 @@ impl fmt::Display for Failure {
     }
 }
 
-// What the program reads and writes to, and the words and the output that each answer is lent.
+// What the program reads and writes to, and the words and the output that each answer is lent: two buffers of their own,
+// as no word stands beside a byte.
 #[derive(Clone, Copy)]
 struct Planner {
     input: Stdin,
@@ -43,20 +44,14 @@ struct Planner {
 }
 
 impl Planner {
-    // Writes the first bytes of what is gathered.
-    fn flush(&self, used: usize) -> Result<(), Failure>
-        requires { used ≤ length self.now.out }
-    {
-        self.output
-            .write_all(&self.out[..used])
-            .map_err(Failure::Write)
+    fn write(&self, text: &[u8]) -> Result<(), Failure> {
+        self.output.write_all(text).map_err(Failure::Write)
     }
 
     // What a read brought is answered before the next read: who waits for a line's answer gets it. Where the output is
     // full it is written, and filled anew. From the place handed back on stands the line that is left. A `while`: a turn
     // goes on where the call says.
     fn answer(&mut self, text: &[u8], n: usize) -> Result<usize, Failure>
-        requires { n ≤ length text.now }
         ensures { IfOk result (λ from. (from ≤ length text.now) × (drop from text.now ≡ left_of (take n text.now) (drop n text.now))) }
     {
         let mut from: usize = 0;
@@ -69,7 +64,7 @@ impl Planner {
                 &mut self.out,
                 0,
             ).unwrap();
-            self.flush(fed.used)?;
+            self.write(&self.out[..fed.used])?;
             at = from + fed.at;
             from += fed.from;
         }
@@ -80,16 +75,15 @@ impl Planner {
         ensures { self.new.out ≡ end_out line.now frame_words self.old.out }
     {
         let used = feed::finish(line, &mut self.words, &mut self.out).unwrap();
-        self.flush(used)
+        self.write(&self.out[..used])
     }
 
     // Of the text the first n bytes are the present line, and the others were read. If none were, the input is over,
     // and the present line is its last. Else this many bytes at the front are the line that is left.
     fn take_in(&mut self, text: &mut [u8], n: usize) -> Result<Option<usize>, Failure>
-        requires { n ≤ length text.old }
         ensures { TakesIn text.old self.old.out n frame_words result text.new self.new.out }
     {
-        if text.len() == n {
+        if text.len() <= n {
             self.answer_last(text)?;
             return Ok(None);
         }
@@ -99,17 +93,17 @@ impl Planner {
 
     // A read that did not fail answered how many bytes it brought behind the n of the present line.
     fn after_read(&mut self, buf: &mut [u8], n: usize, got: usize) -> Result<Option<usize>, Failure>
-        requires { n ≤ length buf.old }
         ensures { (IfOk result (λ left. IfSome left (λ kept. kept ≤ kept_bytes))) × (n + got ≤ length buf.old → TakesIn (take (n + got) buf.old) self.old.out n frame_words result (take (n + got) buf.new) self.new.out) }
     {
-        let end = n + got.min(buf.len() - n);
+        let end = n.saturating_add(got).min(buf.len());
         self.take_in(&mut buf[..end], n)
     }
 
     // One read behind the n bytes of the present line, which may bring few bytes. One that a signal cut short is made
-    // again; one that fails ends the program: of a line that could not be read to its end nothing is listed.
-    fn one_turn(&mut self, buf: &mut [u8], n: usize) -> Result<Option<usize>, Failure>
-        requires { (n ≤ kept_bytes) × (kept_bytes < length buf.old) }
+    // again; one that fails ends the program: of a line that could not be read to its end nothing is listed. The clause
+    // says what the turn before answered: a struct of n alone would have its fact and be no plainer.
+    fn one_turn(&mut self, buf: &mut [u8; INPUT], n: usize) -> Result<Option<usize>, Failure>
+        requires { n ≤ kept_bytes }
         ensures { IfOk result (λ left. IfSome left (λ kept. kept ≤ kept_bytes)) }
     {
         let mut input = self.input;
@@ -124,9 +118,7 @@ impl Planner {
         }
     }
 
-    fn read_all(&mut self, buf: &mut [u8]) -> Result<(), Failure>
-        requires { kept_bytes < length buf.old }
-    {
+    fn read_all(&mut self, buf: &mut [u8; INPUT]) -> Result<(), Failure> {
         let mut n: usize = 0;
         for _ in 0..u64::MAX {
             let Some(kept) = self.one_turn(buf, n)? else {

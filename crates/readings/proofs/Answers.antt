@@ -9,15 +9,9 @@ use Rattle.graph.specs.Links.{size_test, position_test}
 use Rattle.graph.proofs.Rules.{size_parts}
 use Rattle.room.specs.declared.room.Room.{Room}
 use Rattle.room.specs.Rooms.{size_of}
-use Rattle.readings.specs.Readings.{pipeline_only, of_pipeline}
-
--- an accepted position is one of the 64 places
-pub place_below : (n v : ℕ) → position_test n v ≡ Ok tt → v < 64
-unfolding position_test
-place_below n v e =
-    let size = size_parts n (first_held (size_test n) (holds_or (ltb v n) NoPosition) tt e) in
-    let low = ltb-true v n (held (ltb v n) NoPosition (second_held (size_test n) (holds_or (ltb v n) NoPosition) tt e)) in
-    omega (arith, size.1)
+use Rattle.room.specs.Kinds.{pipeline_only}
+use Rattle.room.proofs.Answers.{place_below}
+use Rattle.readings.specs.Readings.{of_pipeline}
 
 pub part_below : (r : Room) (v : ℕ) → of_pipeline r v ≡ Ok tt → v < 64
 unfolding of_pipeline

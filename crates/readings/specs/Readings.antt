@@ -18,7 +18,7 @@ use Rattle.merges.specs.declared.merging.Payload.{Payload}
 use Rattle.merges.specs.declared.merging.ProposalOutcome.{ProposalOutcome}
 use Rattle.limits.specs.Refusals.{Tested, holds_or, after}
 use Rattle.limits.specs.declared.refusals.Refusal.{Refusal}
-use Rattle.limits.specs.declared.refusals.Refusal.TheVariants.{OtherKind, NoProposal}
+use Rattle.limits.specs.declared.refusals.Refusal.TheVariants.{NoProposal}
 use Rattle.engines.specs.Nodes.{no_node}
 use Rattle.engines.specs.declared.node.Node.{Node}
 use Rattle.pipeline.specs.Pending.{no_entry}
@@ -34,16 +34,8 @@ use Rattle.room.specs.declared.room.Room.{Room}
 use Rattle.pipeline.specs.declared.pipeline.PipelinePart.{PipelinePart}
 use Rattle.readings.specs.declared.readings.PendingReading.{PendingReading}
 use Rattle.readings.specs.declared.readings.RecordReading.{RecordReading}
-use Rattle.room.specs.Kinds.{is_pipeline}
+use Rattle.room.specs.Kinds.{is_pipeline, capture_only, pipeline_only}
 use Rattle.room.specs.Rooms.{size_of}
-
-abbrev pub capture_only : RoomKind → Tested
-capture_only kinds.Pipeline = Err OtherKind
-capture_only kinds.Capture = Ok tt
-
-abbrev pub pipeline_only : RoomKind → Tested
-pipeline_only kinds.Pipeline = Ok tt
-pipeline_only kinds.Capture = Err OtherKind
 
 -- ---- of the room
 
@@ -57,14 +49,15 @@ abbrev pub stopped_of : Room → Result ℕ Refusal
 stopped_of r = result_and (pipeline_only r.conf.kind) (Ok (bool_byte r.pipeline.stop))
 
 -- who proposed last (12: nobody has)
-abbrev pub proposer_of : Bool → ℕ → Result ℕ Refusal
-proposer_of proposed initiator = result_and (holds_or proposed NoProposal) (Ok initiator)
+abbrev pub proposer_of : Option ℕ → Result ℕ Refusal
+proposer_of None = Err NoProposal
+proposer_of (Some v) = Ok v
 
 -- who floods first: in a capture room who proposed last, in a pipeline room the positions take turns
 unfoldable pub initiator_now : Room → Result ℕ Refusal
 initiator_now r =
     result_and (size_test (size_of r))
-    (either (is_pipeline r.conf.kind) (Ok (r.pipeline.round % size_of r)) (proposer_of r.capture.proposed r.capture.initiator))
+    (either (is_pipeline r.conf.kind) (Ok (r.pipeline.round % size_of r)) (proposer_of r.capture.initiator))
 
 -- Aborted if anybody holds it, Committed if everybody does, and else TimedOut.
 abbrev pub outcome_read : Room → Result ProposalOutcome Refusal

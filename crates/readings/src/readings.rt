@@ -1,9 +1,8 @@
 // RULES 12. The readings of a room: what the Rust's state has, or why it is refused: there is no such position, the
 // room is of the other kind, nobody has proposed, or a text does not fit. A reading changes no room.
 ghost use Rattle.std.specs.Prelude.{◌≡◌, ◌<◌};
-ghost use Rattle.graph.specs.Links.{position_test};
 ghost use Rattle.engines.specs.Metrics.{link_pdr_of, flood_coverage_of};
-ghost use Rattle.readings.specs.Readings.{capture_only, pipeline_only, term_of, round_of, stopped_of, proposer_of, initiator_now, outcome_read, node_of, of_pipeline, state_at, log_len_of, entry_of, log_entry_of, pending_in, pending_of, record_in, record_of, ce_answer, ce_left, pipe_answer_of, pipe_left, text_of, text_left};
+ghost use Rattle.readings.specs.Readings.{term_of, round_of, stopped_of, proposer_of, initiator_now, outcome_read, node_of, of_pipeline, state_at, log_len_of, entry_of, log_entry_of, pending_in, pending_of, record_in, record_of, ce_answer, ce_left, pipe_answer_of, pipe_left, text_of, text_left};
 
 use engines::metrics::MetricsCollector;
 use engines::node::Node;
@@ -17,7 +16,7 @@ use packets::{Data, two_pc_ce, two_pc_pipeline};
 use pipeline::packet;
 use pipeline::pipeline::PipelinePart;
 use pipeline::two_pc_pipeline::{LogEntry, NodeTwoPcState, RoundPacket, TxLog};
-use room::room::{Room, RoomKind};
+use room::room::{Room, RoomKind, check_position};
 
 // What is held of a transaction for a position: whether it is pending, whether an abort is known of it, who has said
 // yes, the round of its start, and its data if it is pending. If it is not, the round is the room's all the same, and
@@ -96,39 +95,19 @@ pub fn flood_coverage(r: &Room) -> Option<f64>
     r.network.metrics.flood_coverage()
 }
 
-// A capture room's alone.
-fn check_capture(kind: RoomKind) -> Result<(), Refusal>
-    ensures { result ≡ capture_only kind }
-{
-    match kind {
-        RoomKind::Pipeline => Err(Refusal::OtherKind),
-        RoomKind::Capture => Ok(()),
-    }
-}
-
-// A pipeline room's alone.
-fn check_pipeline(kind: RoomKind) -> Result<(), Refusal>
-    ensures { result ≡ pipeline_only kind }
-{
-    match kind {
-        RoomKind::Pipeline => Ok(()),
-        RoomKind::Capture => Err(Refusal::OtherKind),
-    }
-}
-
 // The next two differ in their test and in their field, which is all that they have: one for both would take closures
 // for these, and be longer.
 pub fn term(r: &Room) -> Result<u64, Refusal>
     ensures { result ≡ term_of r.now }
 {
-    check_capture(r.conf.kind)?;
+    r.conf.kind.check_capture()?;
     Ok(r.capture.term)
 }
 
 pub fn round(r: &Room) -> Result<u64, Refusal>
     ensures { result ≡ round_of r.now }
 {
-    check_pipeline(r.conf.kind)?;
+    r.conf.kind.check_pipeline()?;
     Ok(r.pipeline.round)
 }
 
@@ -136,18 +115,18 @@ pub fn round(r: &Room) -> Result<u64, Refusal>
 pub fn stopped(r: &Room) -> Result<u64, Refusal>
     ensures { result ≡ stopped_of r.now }
 {
-    check_pipeline(r.conf.kind)?;
+    r.conf.kind.check_pipeline()?;
     Ok(u64::from(r.pipeline.stop))
 }
 
 // Who proposed last, if anybody has.
-fn proposer(proposed: bool, initiator: usize) -> Result<u64, Refusal>
-    ensures { result ≡ proposer_of proposed initiator }
+fn proposer(initiator: Option<usize>) -> Result<u64, Refusal>
+    ensures { result ≡ proposer_of initiator }
 {
-    if !proposed {
-        return Err(Refusal::NoProposal);
+    match initiator {
+        Some(v) => Ok(v as u64),
+        None => Err(Refusal::NoProposal),
     }
-    Ok(initiator as u64)
 }
 
 // Who floods first in a round of n positions: in a capture room who proposed last, in a pipeline room the positions
@@ -160,7 +139,7 @@ pub fn initiator(r: &Room) -> Result<u64, Refusal>
     check_size(n)?;
     match r.conf.kind {
         RoomKind::Pipeline => Ok(r.pipeline.round % (n as u64)),
-        RoomKind::Capture => proposer(r.capture.proposed, r.capture.initiator),
+        RoomKind::Capture => proposer(r.capture.initiator),
     }
 }
 
@@ -170,25 +149,14 @@ pub fn proposal_outcome(r: &Room) -> Result<ProposalOutcome, Refusal>
 {
     let n = r.conf.round.graph.n;
     check_size(n)?;
-    check_capture(r.conf.kind)?;
+    r.conf.kind.check_capture()?;
     Ok(merging::proposal_outcome(r.capture.held, n))
 }
 
 // ---- of a position
 
-#[tactic(auto, unfolding(graph::specs::Links::position_test))]
-fn check_position(n: usize, v: usize) -> Result<(), Refusal>
-    ensures { result ≡ position_test n v }
-{
-    check_size(n)?;
-    if v >= n {
-        return Err(Refusal::NoPosition);
-    }
-    Ok(())
-}
-
 // State, counts, last progress, goal flag and progress.
-#[tactic(auto, using(crate::proofs::Answers::place_below))]
+#[tactic(auto, using(room::proofs::Answers::place_below))]
 pub fn node(r: &Room, v: usize) -> Result<Node, Refusal>
     ensures { result ≡ node_of r.now v }
 {
@@ -202,7 +170,7 @@ fn check_part(r: &Room, v: usize) -> Result<(), Refusal>
     ensures { result ≡ of_pipeline r.now v }
 {
     check_position(r.conf.round.graph.n, v)?;
-    check_pipeline(r.conf.kind)
+    r.conf.kind.check_pipeline()
 }
 
 #[tactic(auto, using(crate::proofs::Answers::part_below))]
@@ -276,7 +244,7 @@ fn record_in(x: &PipelinePart, k: usize) -> RecordReading
 pub fn record(r: &Room, k: usize) -> Result<RecordReading, Refusal>
     ensures { result ≡ record_of r.now k }
 {
-    check_pipeline(r.conf.kind)?;
+    r.conf.kind.check_pipeline()?;
     Ok(record_in(&r.pipeline, k))
 }
 
@@ -306,7 +274,7 @@ fn pipeline_text(n: usize, holds: bool, q: RoundPacket, out: &mut [u8]) -> Resul
 
 // The text of what position v holds, written to the start of the buffer, and how long it is; NoFit if it does not fit,
 // and then the buffer is as it was. Who holds nothing has a text of no bytes.
-#[tactic(auto, using(crate::proofs::Answers::place_below))]
+#[tactic(auto, using(room::proofs::Answers::place_below))]
 pub fn packet_text(r: &Room, v: usize, out: &mut [u8]) -> Result<usize, Refusal>
     ensures value { result ≡ text_of r.now v out.old }
     ensures out_after { out.new ≡ text_left r.now v out.old }

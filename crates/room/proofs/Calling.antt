@@ -1,13 +1,15 @@
 -- Demand 3, one call at a time: opening, propose and a capture round. Assumes nothing.
-use Rattle.std.proofs.Common.{◌≡◌, ℕ, zero, suc, ◌+◌, ◌^◌, ◌<◌, ◌≤◌, Bool, true, false, not, ◌&&◌, eqb, leb, List, [], replicate, refl, subst, mod-eq_of_lt, arith, eqb-true, leb-false}
+use Rattle.std.specs.Option.{is_some}
+use Rattle.std.proofs.Common.{◌≡◌, ℕ, zero, suc, ◌+◌, ◌^◌, ◌<◌, ◌≤◌, Bool, true, false, not, ◌&&◌, eqb, Ok, List, [], replicate, refl, sym, true≢false, subst, mod-eq_of_lt, arith}
+use Rattle.std.specs.Result.{is_ok}
 use borrow.Author.Tests.{eqb-false}
 use Rattle.loops.specs.Pick.{either}
 use Rattle.limits.specs.Limits.{last_slot, last_term}
-use Rattle.limits.specs.Refusals.{bad_positions, no_position, other_kind, no_proposal, no_term}
-use Rattle.limits.proofs.Tests.{unrefused}
-use Rattle.graph.specs.Links.{is_size, graph_test, graph_refusal}
+use Rattle.limits.specs.Refusals.{Tested, holds_or}
+use Rattle.limits.specs.declared.refusals.Refusal.TheVariants.{NoProposal, NoTerm}
+use Rattle.limits.proofs.Tests.{held, first_held, second_held, ok_told}
+use Rattle.graph.specs.Links.{size_test, position_test, graph_test}
 use Rattle.graph.proofs.Rules.{graph_parts}
-use Rattle.graph.specs.declared.network.NetworkGraph.{NetworkGraph}
 use Rattle.loops.specs.Wrap.{add64}
 use Rattle.merges.specs.Merging.{Noes, proposal_of, network_goal_of}
 use Rattle.merges.specs.declared.merging.Held.TheVariants.{Empty, Packet}
@@ -17,26 +19,22 @@ use Rattle.merges.proofs.Growth.{proposal_term}
 use Rattle.merges.proofs.Limits.{proposes_valid}
 use Rattle.engines.specs.Clamp.{at_most64}
 use Rattle.engines.specs.Nodes.{ticked_all}
-use Rattle.engines.specs.Network.{new_network, with_nodes, ticking, long_refusal}
+use Rattle.engines.specs.Network.{new_network, with_nodes, ticking, length_test}
 use Rattle.engines.specs.declared.network.Network.{Network}
 use Rattle.engines.proofs.Rounds.{length_fits}
 use Rattle.engines.proofs.Sums.{Counts, all_counts, ticked_counts, next_counts, inc_is, new_counts}
 use Rattle.capture.specs.Turns.{started, started_all, turned, turn_of, turned_all}
 use Rattle.capture.specs.Ce.{told_all}
-use Rattle.capture.specs.Capture.{voting_of, over, begun, goal_met, news_of, plan_for, acted, finished, slot_of, start_of, after_round, refusal_of, answer_of}
+use Rattle.capture.specs.Capture.{voting_of, over, begun, goal_met, news_of, plan_for, acted, finished, slot_of, start_of, after_round, round_test, CeAnswer, answer_of}
 use Rattle.capture.specs.declared.capture.CeState.{CeState}
-use Rattle.capture.specs.declared.capture.CeAnswer.{CeAnswer}
 use Rattle.room.specs.declared.room.RoomConf.{RoomConf}
 use Rattle.room.specs.declared.room.Room.{Room}
 use Rattle.room.specs.declared.room.Asked.{Asked}
-use Rattle.room.specs.declared.room.Opening.{Opening}
-use Rattle.room.specs.declared.capture_calls.Proposed.{Proposed}
-use Rattle.room.specs.declared.capture_calls.Captured.{Captured}
-use Rattle.room.specs.Kinds.{is_pipeline, positions_of}
-use Rattle.room.specs.Capturing.{noes_of, empty_payload, propose_refusal, proposed_in, propose_part, capture_refusal, ce_state, raised, raised_all, network_after, part_after, captured_by, capture_part}
-use Rattle.room.specs.Rooms.{size_of, held_at, open_refusal, new_room, conf_of, open_of, with_capture, propose_of, capture_of}
+use Rattle.room.specs.Kinds.{capture_only, positions_of}
+use Rattle.room.specs.Capturing.{noes_of, empty_payload, propose_test, proposed_in, Proposed, propose_part, capture_test, ce_state, raised, raised_all, network_after, part_after, Captured, captured_by, capture_part, proposer}
+use Rattle.room.specs.Rooms.{size_of, held_at, open_test, new_room, conf_of, opened_by, with_capture, propose_of, capture_of}
 use Rattle.room.specs.Slots.{during, capture_slots}
-use Rattle.room.proofs.Answers.{first_none}
+use Rattle.room.proofs.Answers.{place_inside}
 use Rattle.room.proofs.Holding.{Good, Fit, AllGood, not_packet, grown_same, set_each, told_good, told_follows}
 use Rattle.room.proofs.Moments.{Inv, same_logs, Way, way_none, Quiet, quiet_way, first_quiet, last_quiet, Slot, round_way}
 
@@ -51,19 +49,15 @@ pub term_at : {nay : Noes} {n t : ℕ} (l : Payload) → Good nay n t l → l.he
 term_at {t = t} l g h = subst (Fit t l.packet) h g.fit
 
 -- a refused call changes nothing, and ticks no slot
-pub refused_way : (k : ℕ) (ms : List Room) (r : Room) → Inv r → eqb k 0 ≡ false → Way r (either (eqb k 0) ms []) r
-refused_way k ms r i e = rw e (way_none r i)
+pub refused_way : (t : Tested) (ms : List Room) (r : Room) → Inv r → is_ok t ≡ false → Way r (either (is_ok t) ms []) r
+refused_way t ms r i e = rw e (way_none r i)
 
 -- ---- opening
 
--- an accepted graph has 1 to 64 positions
-graph_sized : (g : NetworkGraph) → graph_refusal g ≡ 0 → (0 < g.n) × (g.n ≤ 64)
-graph_sized g e = graph_parts g (unrefused (graph_test g) e)
-
--- and so has an accepted room
-pub opened_size : (a : Asked) → open_refusal a ≡ 0 → (0 < a.graph.n) × (a.graph.n ≤ 64)
-unfolding open_refusal
-opened_size a e = graph_sized a.graph (first_none (graph_refusal a.graph) _ e)
+-- an accepted room has 1 to 64 positions
+pub opened_size : (a : Asked) → open_test a ≡ Ok tt → (0 < a.graph.n) × (a.graph.n ≤ 64)
+unfolding open_test
+opened_size a e = graph_parts a.graph (first_held (graph_test a.graph) _ tt e)
 
 -- as opened: the invariant, at slot 0
 pub record Opened (r : Room) : Type 0 where
@@ -78,22 +72,19 @@ new_opened c term h l =
       slot = refl;
     }
 
-pub opened : (a : Asked) → a.term < 2 ^ 64 → Opened (open_of a).room
-unfolding open_of
-opened a l =
-    either_cases (λ (x : Opening). Opened x.room) (eqb (open_refusal a) 0)
-    (λ e. new_opened (conf_of a) a.term (opened_size a (eqb-true (open_refusal a) 0 e)).1 l)
-    (λ e. new_opened _ 0 (omega arith) (omega arith))
+pub opened : (a : Asked) → a.term < 2 ^ 64 → open_test a ≡ Ok tt → Opened (opened_by a)
+opened a l e = new_opened (conf_of a) a.term (opened_size a e).1 l
 
 -- ---- propose
 
 -- what an accepted proposal knows
-propose_fine : (a b c d : Bool) → ◌≡◌ {A = ℕ} (either a bad_positions (either b no_position (either c other_kind (either d no_term 0)))) 0 → (b ≡ false) × (d ≡ false)
-propose_fine true b c d e = absurd (let w : ◌≡◌ {A = ℕ} 2 0 = e in omega arith)
-propose_fine false true c d e = absurd (let w : ◌≡◌ {A = ℕ} 8 0 = e in omega arith)
-propose_fine false false true d e = absurd (let w : ◌≡◌ {A = ℕ} 11 0 = e in omega arith)
-propose_fine false false false true e = absurd (let w : ◌≡◌ {A = ℕ} 13 0 = e in omega arith)
-propose_fine false false false false e = (refl, refl)
+propose_fine : (c : RoomConf) (term v : ℕ) → propose_test c term v ≡ Ok tt → (v < positions_of c) × (not (eqb term last_term) ≡ true)
+unfolding propose_test
+propose_fine c term v e =
+    let kind = second_held (position_test (positions_of c) v) _ tt e in (
+      place_inside (positions_of c) v (first_held (position_test (positions_of c) v) _ tt e),
+      held (not (eqb term last_term)) NoTerm (second_held (capture_only c.kind) _ tt kind),
+    )
 
 proposed_quiet : (r : Room) (v : ℕ) → Inv r → v < size_of r → r.capture.term + 1 < 2 ^ 64 → Quiet r (with_capture r r.network (proposed_in r.conf r.capture v))
 unfolding proposed_in
@@ -120,16 +111,17 @@ proposed_quiet r v i h l =
     }
 
 pub propose_way : (r : Room) (v : ℕ) → Inv r → Way r [] (propose_of r v).room
-unfolding propose_of propose_part propose_refusal
+unfolding propose_of propose_part
 propose_way r v i =
-    either_cases (λ (x : Proposed). Way r [] (with_capture r r.network x.part)) (eqb (propose_refusal r.conf r.capture.term v) 0)
+    either_cases (λ (x : Proposed). Way r [] (with_capture r r.network x.part)) (is_ok (propose_test r.conf r.capture.term v))
     (λ e.
-    let f = propose_fine (not (is_size (size_of r))) (leb (size_of r) v) (is_pipeline r.conf.kind) (eqb r.capture.term last_term) (eqb-true (propose_refusal r.conf r.capture.term v) 0 e) in
-    quiet_way (proposed_quiet r v i (leb-false (size_of r) v f.0) (below r.capture.term i.term (eqb-false r.capture.term last_term f.1))))
+    let f = propose_fine r.conf r.capture.term v (ok_told (propose_test r.conf r.capture.term v) e) in
+    quiet_way (proposed_quiet r v i f.0 (below r.capture.term i.term (eqb r.capture.term last_term) refl f.1)))
     (λ e. way_none r i)
   where
-    below : (t : ℕ) → t < 2 ^ 64 → (t ≡ last_term → ⊥) → t + 1 < 2 ^ 64
-    below t h g = omega arith
+    below : (t : ℕ) → t < 2 ^ 64 → (b : Bool) → eqb t last_term ≡ b → not b ≡ true → t + 1 < 2 ^ 64
+    below t h true e g = absurd (true≢false (sym g))
+    below t h false e g = let n : t ≡ last_term → ⊥ = eqb-false t last_term e in omega (arith, h, n)
 
 -- ---- a capture round
 
@@ -179,7 +171,7 @@ capture_slot ws r c i h =
     (λ e. acted_slot ws r c i h)
 
 abbrev start_in : Room → ℕ → CeState
-start_in r cursor = start_of r.conf.round r.capture.initiator cursor (ce_state r.network r.capture)
+start_in r cursor = start_of r.conf.round (proposer r.capture) cursor (ce_state r.network r.capture)
 
 start_quiet : (r : Room) (cursor : ℕ) → Inv r → Quiet r (during r (start_in r cursor))
 unfolding start_of started_all started
@@ -187,7 +179,7 @@ start_quiet r cursor i =
     record {
       inv = record {
         size = i.size;
-        counts = all_counts (started r.capture.initiator r.network.slot) (λ j v. record { listen = refl; flood = refl; sleep = refl }) (at_most64 (size_of r)) r.network.nodes i.counts;
+        counts = all_counts (started (proposer r.capture) r.network.slot) (λ j v. record { listen = refl; flood = refl; sleep = refl }) (at_most64 (size_of r)) r.network.nodes i.counts;
         term = i.term;
         held = i.held;
       };
@@ -224,31 +216,27 @@ captured_way ws r cursor i h =
     last_quiet (first_quiet q w) (end_quiet r _ w.inv)
 
 -- what an accepted round knows
-pub round_fine : (c : RoomConf) (proposed : Bool) (slot : ℕ) → capture_refusal c proposed slot ≡ 0 → long_refusal c.round slot ≡ 0
-unfolding capture_refusal
-round_fine c proposed slot e = by (not (is_size (positions_of c))) (is_pipeline c.kind) (not proposed) e
-  where
-    by : (x y z : Bool) → either x bad_positions (either y other_kind (either z no_proposal (long_refusal c.round slot))) ≡ 0 → long_refusal c.round slot ≡ 0
-    by true y z w = absurd (let u : ◌≡◌ {A = ℕ} 2 0 = w in omega arith)
-    by false true z w = absurd (let u : ◌≡◌ {A = ℕ} 11 0 = w in omega arith)
-    by false false true w = absurd (let u : ◌≡◌ {A = ℕ} 12 0 = w in omega arith)
-    by false false false w = w
+pub round_fine : (c : RoomConf) (proposed : Bool) (slot : ℕ) → capture_test c proposed slot ≡ Ok tt → length_test c.round slot ≡ Ok tt
+unfolding capture_test
+round_fine c proposed slot e =
+    let kind = second_held (size_test (positions_of c)) _ tt e in
+    second_held (holds_or proposed NoProposal) _ tt (second_held (capture_only c.kind) _ tt kind)
 
 pub capture_way : (ws : List ℕ) (numbers used cursor : ℕ) (r : Room) → Inv r
-    → Way r (either (eqb (capture_of ws numbers used r cursor).refusal 0) (capture_slots ws cursor r) []) (capture_of ws numbers used r cursor).room
+    → Way r (either (is_ok (capture_of ws numbers used r cursor).told) (capture_slots ws cursor r) []) (capture_of ws numbers used r cursor).room
 unfolding capture_of capture_part captured_by answer_of
 capture_way ws numbers used cursor r i =
-    either_cases Fine (eqb early 0)
-    (λ e. either_cases (λ (a : CeAnswer). Fine (captured_by r.conf r.network r.capture cursor used a)) (eqb k 0)
-    (λ f. captured_way ws r cursor i (length_fits r.conf.round r.network.slot (round_fine r.conf r.capture.proposed r.network.slot (eqb-true early 0 e))))
+    either_cases Fine (is_ok early)
+    (λ e. either_cases (λ (a : CeAnswer). Fine (captured_by r.conf r.network r.capture cursor used a)) (is_ok k)
+    (λ f. captured_way ws r cursor i (length_fits r.conf.round r.network.slot (round_fine r.conf (is_some r.capture.initiator) r.network.slot (ok_told early e))))
     (λ f. rw f (refused_way k (capture_slots ws cursor r) r i f)))
     (λ e. refused_way early (capture_slots ws cursor r) r i e)
   where
     Fine : Captured → Type 0
-    Fine x = Way r (either (eqb x.refusal 0) (capture_slots ws cursor r) []) (with_capture r x.network x.part)
+    Fine x = Way r (either (is_ok x.told) (capture_slots ws cursor r) []) (with_capture r x.network x.part)
 
-    early : ℕ
-    early = capture_refusal r.conf r.capture.proposed r.network.slot
+    early : Tested
+    early = capture_test r.conf (is_some r.capture.initiator) r.network.slot
 
-    k : ℕ
-    k = refusal_of ws numbers used r.conf.round (start_in r cursor)
+    k : Tested
+    k = round_test ws numbers used r.conf.round (start_in r cursor)

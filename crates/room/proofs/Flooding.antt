@@ -1,10 +1,12 @@
 -- Demand 3, one call at a time: a pipeline round. Assumes nothing.
-use Rattle.std.proofs.Common.{◌≡◌, ℕ, ◌+◌, ◌<◌, ◌≤◌, Bool, true, false, not, eqb, ltb, leb, List, [], get_or, refl, arith, eqb-true}
+use Rattle.std.proofs.Common.{◌≡◌, ℕ, ◌+◌, ◌<◌, ◌≤◌, Bool, ltb, leb, Ok, List, [], get_or, refl, arith}
+use Rattle.std.specs.Result.{is_ok}
 use Rattle.loops.specs.Pick.{either}
 use Rattle.limits.specs.Limits.{last_slot}
-use Rattle.limits.specs.Refusals.{bad_positions, other_kind}
+use Rattle.limits.specs.Refusals.{Tested}
+use Rattle.limits.proofs.Tests.{second_held, ok_told}
 use Rattle.marks.specs.Marks.{has}
-use Rattle.graph.specs.Links.{is_size}
+use Rattle.graph.specs.Links.{size_test}
 use Rattle.merges.proofs.Safety.{either_cases}
 use Rattle.engines.specs.Clamp.{at_most64}
 use Rattle.engines.specs.Nodes.{reset_round, sets_of, ticked_all}
@@ -16,15 +18,14 @@ use Rattle.flood.specs.Flood.{in_state, next_node, turn_at, turned_all, flood_pl
 use Rattle.flood.specs.declared.flood.FloodRun.{FloodRun}
 use Rattle.flood.proofs.Sums.{next_alike}
 use Rattle.pipeline.specs.Pipeline.{no_state, progressed, progress_at, progress_all}
-use Rattle.pipeline.specs.Round.{initiator_of, preparing, bytes_of, flood_from, flood_of, close_round, run_round, early_refusal, start_draw, round_refusal, round_answer}
+use Rattle.pipeline.specs.Round.{initiator_of, preparing, bytes_of, flood_from, flood_of, close_round, run_round, early_test, start_draw, round_test, PipelineAnswer, round_answer}
 use Rattle.pipeline.specs.declared.prepare.Prepared.{Prepared}
-use Rattle.pipeline.specs.declared.pipeline.PipelineAnswer.{PipelineAnswer}
 use Rattle.pipeline.proofs.Rounding.{early_length}
 use Rattle.pipeline.proofs.KeptLogs.{close_kept, preparing_kept}
 use Rattle.room.specs.declared.room.Room.{Room}
 use Rattle.room.specs.declared.room.RoomConf.{RoomConf}
-use Rattle.room.specs.Kinds.{is_pipeline, positions_of}
-use Rattle.room.specs.Pipelining.{pipe_conf, pipeline_refusal, pipeline_part}
+use Rattle.room.specs.Kinds.{pipeline_only, positions_of}
+use Rattle.room.specs.Pipelining.{pipe_conf, pipeline_test, pipeline_part}
 use Rattle.room.specs.Rooms.{size_of, held_at, with_pipeline, pipeline_of}
 use Rattle.room.specs.Slots.{flooding, pipeline_slots}
 use Rattle.room.proofs.Holding.{grown_same}
@@ -117,30 +118,25 @@ ran_way ws r cursor v h =
     last_quiet (first_quiet q w) (closed_quiet ws r i prep _ w.inv)
 
 -- what an accepted round knows
-round_fine : (c : RoomConf) (stop : Bool) (slot : ℕ) → pipeline_refusal c stop slot ≡ 0 → early_refusal (pipe_conf c) slot stop ≡ 0
-unfolding pipeline_refusal
-round_fine c stop slot e = by (not (is_size (positions_of c))) (not (is_pipeline c.kind)) e
-  where
-    by : (x y : Bool) → either x bad_positions (either y other_kind (early_refusal (pipe_conf c) slot stop)) ≡ 0 → early_refusal (pipe_conf c) slot stop ≡ 0
-    by true y w = absurd (let u : ◌≡◌ {A = ℕ} 2 0 = w in omega arith)
-    by false true w = absurd (let u : ◌≡◌ {A = ℕ} 11 0 = w in omega arith)
-    by false false w = w
+round_fine : (c : RoomConf) (stop : Bool) (slot : ℕ) → pipeline_test c stop slot ≡ Ok tt → early_test (pipe_conf c) slot stop ≡ Ok tt
+unfolding pipeline_test
+round_fine c stop slot e = second_held (pipeline_only c.kind) _ tt (second_held (size_test (positions_of c)) _ tt e)
 
 pub pipeline_way : (ws : List ℕ) (numbers used cursor : ℕ) (r : Room) → Inv r
-    → Way r (either (eqb (pipeline_of ws numbers used r cursor).refusal 0) (pipeline_slots ws cursor r) []) (pipeline_of ws numbers used r cursor).room
+    → Way r (either (is_ok (pipeline_of ws numbers used r cursor).told) (pipeline_slots ws cursor r) []) (pipeline_of ws numbers used r cursor).room
 unfolding pipeline_of pipeline_part round_answer
 pipeline_way ws numbers used cursor r v =
-    either_cases Told (eqb early 0)
-    (λ b. either_cases Told (eqb late 0)
-    (λ c. ran_way ws r cursor v (early_length (pipe_conf r.conf) r.network.slot r.pipeline.stop (round_fine r.conf r.pipeline.stop r.network.slot (eqb-true early 0 b))))
+    either_cases Told (is_ok early)
+    (λ b. either_cases Told (is_ok late)
+    (λ c. ran_way ws r cursor v (early_length (pipe_conf r.conf) r.network.slot r.pipeline.stop (round_fine r.conf r.pipeline.stop r.network.slot (ok_told early b))))
     (λ c. refused_way late (pipeline_slots ws cursor r) r v c))
     (λ b. refused_way early (pipeline_slots ws cursor r) r v b)
   where
     Told : PipelineAnswer → Type 0
-    Told a = Way r (either (eqb a.refusal 0) (pipeline_slots ws cursor r) []) (with_pipeline r a.network a.part)
+    Told a = Way r (either (is_ok a.told) (pipeline_slots ws cursor r) []) (with_pipeline r a.network a.part)
 
-    early : ℕ
-    early = pipeline_refusal r.conf r.pipeline.stop r.network.slot
+    early : Tested
+    early = pipeline_test r.conf r.pipeline.stop r.network.slot
 
-    late : ℕ
-    late = round_refusal ws numbers used (pipe_conf r.conf) r.network r.pipeline cursor
+    late : Tested
+    late = round_test ws numbers used (pipe_conf r.conf) r.network r.pipeline cursor

@@ -1,29 +1,29 @@
 -- A room's pipeline part holds valid packets only: as opened, after each call, and after each slot of a round; and what
 -- an accepted pipeline round counts as covered. Assumes nothing.
-use Rattle.std.proofs.Common.{◌≡◌, ℕ, zero, suc, ◌+◌, ◌%◌, ◌^◌, ◌<◌, ◌≤◌, Bool, true, false, eqb, ◌⊎◌, List, map, get_or, inl, inr, arith, eqb-true}
+use Rattle.std.proofs.Common.{◌≡◌, ℕ, zero, suc, ◌+◌, ◌%◌, ◌^◌, ◌<◌, ◌≤◌, Bool, true, false, Ok, Err, ◌⊎◌, List, map, get_or, inl, inr, true≢false, arith}
+use Rattle.std.specs.Result.{is_ok}
 use mathlib.Core.List.Memᴰ
 use mathlib.Core.List.{Memᴰ}
-use borrow.Author.Tests.{eqb-false}
+use Rattle.limits.specs.Refusals.{Tested}
+use Rattle.limits.proofs.Tests.{no_err, ok_told}
 use Rattle.marks.specs.Marks.{has, marks, count_of}
 use Rattle.engines.specs.Nodes.{no_node}
 use Rattle.engines.specs.declared.node.NodeState.TheVariants.{Sleep}
 use Rattle.merges.proofs.Safety.{either_cases}
 use Rattle.packets.specs.Packets.{ValidPipeline}
 use Rattle.pipeline.specs.Pipeline.{packet_of}
-use Rattle.pipeline.specs.Round.{no_packet, initiator_of, preparing, run_round, early_refusal, start_draw, round_refusal}
-use Rattle.pipeline.specs.Round.{round_answer}
+use Rattle.pipeline.specs.Round.{no_packet, initiator_of, preparing, run_round, early_test, start_draw, round_test}
+use Rattle.pipeline.specs.Round.{PipelineAnswer, round_answer}
 use Rattle.pipeline.specs.declared.pipeline.PipelineConf.{PipelineConf}
-use Rattle.pipeline.specs.declared.pipeline.PipelineAnswer.{PipelineAnswer}
 use Rattle.pipeline.proofs.Rounding.{early_size, refusal_none}
 use Rattle.pipeline.proofs.Valid.{ValidPart, new_valid, answer_valid}
 use Rattle.pipeline.proofs.Covering.{text_in, initiator_holds, run_covered, sleeper_text}
 use Rattle.room.specs.declared.room.Room.{Room}
 use Rattle.room.specs.declared.room.RoomConf.{RoomConf}
 use Rattle.room.specs.declared.room.Asked.{Asked}
-use Rattle.room.specs.declared.room.Opening.{Opening}
 use Rattle.room.specs.Kinds.{positions_of}
-use Rattle.room.specs.Pipelining.{pipe_conf, pipeline_refusal, pipeline_part}
-use Rattle.room.specs.Rooms.{size_of, open_refusal, new_room, conf_of, open_of, with_pipeline, propose_of, capture_of}
+use Rattle.room.specs.Pipelining.{pipe_conf, pipeline_test, pipeline_part}
+use Rattle.room.specs.Rooms.{size_of, open_test, new_room, conf_of, opened_by, with_pipeline, propose_of, capture_of}
 use Rattle.room.specs.Rooms.{pipeline_of}
 use Rattle.room.specs.Slots.{stages_from, during, capture_slots, flooding, pipeline_slots}
 use Rattle.room.proofs.Calling.{opened_size}
@@ -37,12 +37,8 @@ new_room_lem : (c : RoomConf) (term : ℕ) → positions_of c ≤ 64 → ValidRo
 unfolding new_room
 new_room_lem c term h = new_valid (positions_of c) h
 
-pub opened_valid : (a : Asked) → ValidRoom (open_of a).room
-unfolding open_of
-opened_valid a =
-    either_cases (λ (x : Opening). ValidRoom x.room) (eqb (open_refusal a) 0)
-    (λ e. new_room_lem (conf_of a) a.term (opened_size a (eqb-true (open_refusal a) 0 e)).1)
-    (λ e. new_room_lem _ 0 (omega arith))
+pub opened_valid : (a : Asked) → open_test a ≡ Ok tt → ValidRoom (opened_by a)
+opened_valid a e = new_room_lem (conf_of a) a.term (opened_size a e).1
 
 module _ (r : Room) (valid : ValidRoom r) where
   -- the calls of a capture room leave the part of a pipeline
@@ -58,7 +54,7 @@ module _ (r : Room) (valid : ValidRoom r) where
   unfolding pipeline_of pipeline_part
   pipeline_valid ws numbers used cursor =
       either_cases (λ (a : PipelineAnswer). ValidPart (size_of r) a.part)
-      (eqb (pipeline_refusal r.conf r.pipeline.stop r.network.slot) 0)
+      (is_ok (pipeline_test r.conf r.pipeline.stop r.network.slot))
       (λ e. answer_valid ws numbers used (pipe_conf r.conf) r.network r.pipeline cursor valid)
       (λ e. valid)
 
@@ -103,32 +99,36 @@ ran_room ws r cursor =
 
 -- what its run gives is what it hands back, in a room of 1 to 64 positions
 accepted_ran : (ws : List ℕ) (numbers used : ℕ) (r : Room) (cursor : ℕ) (P : Room → Type 0)
-    → (pipeline_of ws numbers used r cursor).refusal ≡ 0
+    → (pipeline_of ws numbers used r cursor).told ≡ Ok tt
     → (0 < size_of r → size_of r ≤ 64 → P (ran_room ws r cursor))
     → P (pipeline_of ws numbers used r cursor).room
 unfolding pipeline_of pipeline_part round_answer
 accepted_ran ws numbers used r cursor P none f =
-    either_cases Told (eqb early 0)
-    (λ e. either_cases Told (eqb late 0)
+    either_cases Told (is_ok early)
+    (λ e. either_cases Told (is_ok late)
     (λ g q. let size = early_size conf r.network.slot r.pipeline.stop (fine g) in f size.0 size.1)
-    (λ g q. absurd (eqb-false late 0 g q)))
-    (λ e q. absurd (eqb-false early 0 e q))
+    (λ g q. refused late g q))
+    (λ e q. refused early e q)
     none
   where
     Told : PipelineAnswer → Type 0
-    Told a = a.refusal ≡ 0 → P (with_pipeline r a.network a.part)
+    Told a = a.told ≡ Ok tt → P (with_pipeline r a.network a.part)
+
+    refused : {Q : Type 0} (t : Tested) → is_ok t ≡ false → t ≡ Ok tt → Q
+    refused (Ok x) e q = absurd (true≢false e)
+    refused (Err k) e q = no_err q
 
     conf : PipelineConf
     conf = pipe_conf r.conf
 
-    early : ℕ
-    early = pipeline_refusal r.conf r.pipeline.stop r.network.slot
+    early : Tested
+    early = pipeline_test r.conf r.pipeline.stop r.network.slot
 
-    late : ℕ
-    late = round_refusal ws numbers used conf r.network r.pipeline cursor
+    late : Tested
+    late = round_test ws numbers used conf r.network r.pipeline cursor
 
-    fine : eqb late 0 ≡ true → early_refusal conf r.network.slot r.pipeline.stop ≡ 0
-    fine g = (refusal_none ws numbers used conf r.network r.pipeline cursor (eqb-true late 0 g)).0
+    fine : is_ok late ≡ true → early_test conf r.network.slot r.pipeline.stop ≡ Ok tt
+    fine g = (refusal_none ws numbers used conf r.network r.pipeline cursor (ok_told late g)).0
 
 -- the text of what position v holds
 abbrev pub text_of : Room → ℕ → List ℕ
@@ -153,7 +153,7 @@ module _ (test : List ℕ → List ℕ → Bool) (sound : (a b : List ℕ) → t
     pub sleepers : (v : ℕ) → v < size_of b → (get_or b.network.nodes v no_node).state ≡ Sleep → text_of b v ≡ text_of b i
 
   pub pipeline_covers : (ws : List ℕ) (numbers used : ℕ) (r : Room) (cursor : ℕ) → ValidRoom r
-      → (pipeline_of ws numbers used r cursor).refusal ≡ 0
+      → (pipeline_of ws numbers used r cursor).told ≡ Ok tt
       → Covers r (pipeline_of ws numbers used r cursor).room (initiator r)
   pipeline_covers ws numbers used r cursor valid none =
       let conf = pipe_conf r.conf in

@@ -1,36 +1,32 @@
 -- Rooms, by RULES 11.2, 11.3 and 11.4: opening, proposals and rounds. A room's calls move the parts of its kind
 -- (specs/Capturing, specs/Pipelining) and leave the rest. Assumes nothing: these are definitions.
-use Rattle.std.specs.Prelude.{ℕ, not, ◌&&◌, List, ◌==◌, nat_lt, slice_index_or}
-use Rattle.std.specs.Result.{result_unwrap_or}
-use Rattle.loops.specs.Pick.{either}
+use Rattle.std.specs.Prelude.{ℕ, not, ◌&&◌, Result, Ok, List, ◌==◌, leb, slice_index_or}
+use Rattle.std.specs.Result.{result_and, result_unwrap_or}
 use Rattle.limits.specs.Limits as limit
-use Rattle.limits.specs.Refusals.{bad_loss, no_repeats, no_interval, many_transactions}
-use Rattle.graph.specs.Links.{no_graph, graph_refusal}
+use Rattle.limits.specs.Refusals.{Tested, holds_or}
+use Rattle.limits.specs.declared.refusals.Refusal.{Refusal}
+use Rattle.limits.specs.declared.refusals.Refusal.TheVariants.{BadLoss, NoRepeats, NoInterval, ManyTransactions}
+use Rattle.graph.specs.Links.{graph_test}
 use Rattle.graph.specs.Paths.{length_of}
 use Rattle.merges.specs.Merging.{no_payload}
 use Rattle.merges.specs.declared.merging.Payload.{Payload}
 use Rattle.engines.specs.Settings.{loss_accepted}
-use Rattle.engines.specs.Network.{new_network, or_else}
+use Rattle.engines.specs.Network.{new_network}
 use Rattle.engines.specs.declared.settings.Settings.{Settings}
 use Rattle.engines.specs.declared.network.Network.{Network}
 use Rattle.flood.specs.Flood.{flood_length}
-use Rattle.pipeline.specs.Round.{new_part}
+use Rattle.pipeline.specs.Round.{new_part, PipelineAnswer}
 use Rattle.pipeline.specs.declared.pipeline.PipelinePart.{PipelinePart}
-use Rattle.pipeline.specs.declared.pipeline.PipelineAnswer.{PipelineAnswer}
 use Rattle.room.specs.Kinds.{is_pipeline, positions_of}
-use Rattle.room.specs.Capturing.{new_capture, propose_part, capture_part, capture_rows}
+use Rattle.room.specs.Capturing.{new_capture, propose_part, Captured, capture_part, capture_rows}
 use Rattle.room.specs.Pipelining.{pipeline_part, pipeline_rows}
 use Rattle.room.specs.declared.capture_calls.CapturePart.{CapturePart}
-use Rattle.room.specs.declared.capture_calls.Captured.{Captured}
 use Rattle.room.specs.declared.room.Limits.{Limits}
 use Rattle.room.specs.declared.room.RoomKind.{RoomKind}
 use Rattle.room.specs.declared.room.RoomKind.TheVariants as kinds
 use Rattle.room.specs.declared.room.RoomConf.{RoomConf}
 use Rattle.room.specs.declared.room.Room.{Room}
 use Rattle.room.specs.declared.room.Asked.{Asked}
-use Rattle.room.specs.declared.room.Opening.{Opening}
-use Rattle.room.specs.declared.room.Proposal.{Proposal}
-use Rattle.room.specs.declared.room.RoundAnswer.{RoundAnswer}
 
 -- RULES 16: 64 positions, 64 transactions, the last slot, and the lengths of a packet's bitmap and data.
 abbrev pub room_limits : Limits
@@ -53,14 +49,14 @@ held_at r v = slice_index_or r.capture.held v no_payload
 -- ---- opening (2 to 7 of RULES 15)
 
 -- 2 and 3 are those of the graph. 4: the loss. 5: a pipeline with no repeats. 6: no interval between rows. 7: too many
--- transactions. The lowest, and 0 for none.
-unfoldable pub open_refusal : Asked → ℕ
-open_refusal a =
-    or_else (graph_refusal a.graph)
-    (either (not (loss_accepted a.settings.loss_rate)) bad_loss
-    (either (is_pipeline a.kind && a.settings.flood_repeats == 0) no_repeats
-    (either (a.interval == 0) no_interval
-    (either (nat_lt limit.transactions a.transactions) many_transactions 0))))
+-- transactions. The lowest is told.
+unfoldable pub open_test : Asked → Tested
+open_test a =
+    result_and (graph_test a.graph)
+    (result_and (holds_or (loss_accepted a.settings.loss_rate) BadLoss)
+    (result_and (holds_or (not (is_pipeline a.kind && a.settings.flood_repeats == 0)) NoRepeats)
+    (result_and (holds_or (not (a.interval == 0)) NoInterval)
+    (holds_or (leb a.transactions limit.transactions) ManyTransactions))))
 
 -- The full length of a round: in a capture room its slots as given; in a pipeline room those of the flood.
 unfoldable pub round_length : RoomKind → Settings → ℕ → ℕ
@@ -80,16 +76,12 @@ conf_of a =
       bound = a.bound;
     }
 
--- what stands beside a refusal: a room of no positions, with the settings that were asked for
-abbrev pub no_conf : RoomKind → Settings → RoomConf
-no_conf kind s = record { kind = kind; round = record { graph = no_graph; settings = s; interval = 0; length = 0 }; transactions = 0; bound = 0 }
+abbrev pub opened_by : Asked → Room
+opened_by a = new_room (conf_of a) a.term
 
-unfoldable pub open_of : Asked → Opening
-open_of a =
-    let k = open_refusal a in
-    either (k == 0)
-    (record { refusal = 0; room = new_room (conf_of a) a.term })
-    (record { refusal = k; room = new_room (no_conf a.kind a.settings) 0 })
+-- A refused opening gives no room.
+unfoldable pub open_of : Asked → Result Room Refusal
+open_of a = result_and (open_test a) (Ok (opened_by a))
 
 -- ---- the calls
 
@@ -100,14 +92,26 @@ with_capture r w t = record { conf = r.conf; network = w; capture = t; pipeline 
 abbrev pub with_pipeline : Room → Network → PipelinePart → Room
 with_pipeline r w p = record { conf = r.conf; network = w; capture = r.capture; pipeline = p }
 
+-- what a proposal tells, and the room that it leaves: the old one if refused
+pub record Proposal : Type 0 where
+  pub told : Tested
+  pub room : Room
+
 unfoldable pub propose_of : Room → ℕ → Proposal
 propose_of r v =
     let p = propose_part r.conf r.capture v in
-    record { refusal = p.refusal; room = with_capture r r.network p.part }
+    record { told = p.told; room = with_capture r r.network p.part }
 
--- what a round on the parts answers, as an answer of the room
+-- what a round tells, and what it leaves: the cursor, how many rows are used, and the room; the old ones if refused
+pub record RoundAnswer : Type 0 where
+  pub told : Tested
+  pub cursor : ℕ
+  pub used : ℕ
+  pub room : Room
+
+-- what a round does to the parts, as an answer of the room
 abbrev pub captured : Room → Captured → RoundAnswer
-captured r a = record { refusal = a.refusal; cursor = a.cursor; used = a.used; room = with_capture r a.network a.part }
+captured r a = record { told = a.told; cursor = a.cursor; used = a.used; room = with_capture r a.network a.part }
 
 unfoldable pub capture_of : List ℕ → ℕ → ℕ → Room → ℕ → RoundAnswer
 capture_of ws numbers used r cursor = captured r (capture_part ws numbers used r.conf r.network r.capture cursor)
@@ -116,7 +120,7 @@ abbrev pub capture_buffer : List ℕ → List ℕ → ℕ → Room → ℕ → L
 capture_buffer ws rows used r cursor = capture_rows ws rows used r.conf r.network r.capture cursor
 
 abbrev pub ran : Room → PipelineAnswer → RoundAnswer
-ran r a = record { refusal = a.refusal; cursor = a.cursor; used = a.used; room = with_pipeline r a.network a.part }
+ran r a = record { told = a.told; cursor = a.cursor; used = a.used; room = with_pipeline r a.network a.part }
 
 unfoldable pub pipeline_of : List ℕ → ℕ → ℕ → Room → ℕ → RoundAnswer
 pipeline_of ws numbers used r cursor = ran r (pipeline_part ws numbers used r.conf r.network r.pipeline cursor)

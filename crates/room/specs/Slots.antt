@@ -10,7 +10,7 @@ use Rattle.pipeline.specs.Round.{initiator_of, preparing, bytes_of, flood_from, 
 use Rattle.pipeline.specs.declared.prepare.Prepared.{Prepared}
 use Rattle.pipeline.specs.declared.pipeline.PipelinePart.{PipelinePart}
 use Rattle.room.specs.declared.room.Room.{Room}
-use Rattle.room.specs.Capturing.{ce_state, with_held}
+use Rattle.room.specs.Capturing.{ce_state, with_held, proposer}
 use Rattle.room.specs.Pipelining.{pipe_conf}
 use Rattle.room.specs.Rooms.{with_capture, with_pipeline}
 
@@ -31,7 +31,7 @@ during r c = with_capture r c.network (with_held r.capture r.capture.raised c.he
 unfoldable pub capture_slots : List ℕ → ℕ → Room → List Room
 capture_slots ws cursor r =
     let conf = r.conf.round in
-    map (during r) (stages over (slot_of ws conf) conf.length (start_of conf r.capture.initiator cursor (ce_state r.network r.capture)))
+    map (during r) (stages over (slot_of ws conf) conf.length (start_of conf (proposer r.capture) cursor (ce_state r.network r.capture)))
 
 -- in a pipeline round: the flood's state after each slot, with what the initiator knows once it has prepared the round
 abbrev pub prepared : PipelinePart → ℕ → Prepared → PipelinePart

@@ -1,47 +1,30 @@
 // RULES 11.5 and 11.6. What the calls of a capture room do to the parts that they move: the network, and what the room
 // has of its own. A room's calls are thin over these.
 ghost use Rattle.std.specs.Prelude.{◌≡◌, ◌<◌, length, replicate};
-ghost use Rattle.room.specs.Capturing.{empty_payload, new_capture, propose_refusal, proposed_in, propose_part, capture_refusal, ce_state, raised, raised_all, network_after, part_after, captured_by, capture_part, capture_rows};
+ghost use Rattle.room.specs.Capturing.{empty_payload, new_capture, proposer, propose_test, propose_part, capture_test, ce_state, raised, raised_all, network_after, part_after, capture_part, capture_rows};
 
 use super::room;
 use super::room::RoomConf;
 use capture::capture as engine;
-use capture::capture::{CeAnswer, CeState};
+use capture::capture::CeState;
 use engines::network::Network;
 use engines::node::Node;
 use engines::words::Draw;
 use engines::{network, node};
-use limits::refusals;
+use graph::network::check_size;
+use limits::refusals::Refusal;
 use merges::merging;
 use merges::merging::{Held, Payload};
 use packets::{Bitmap, CeTwoPcPacket, Data, TwoPcPhase};
 
-// What a capture room has of its own: the present term, who proposed in it, whether anybody has, whether the progress
-// was raised for it, and what each position holds.
+// What a capture room has of its own: the present term, who proposed in it if anybody has, whether the progress was
+// raised for it, and what each position holds.
 #[derive(Clone, Copy)]
 pub struct CapturePart {
     pub term: u64,
-    pub initiator: usize,
-    pub proposed: bool,
+    pub initiator: Option<usize>,
     pub raised: bool,
     pub held: [Payload; 64],
-}
-
-// A proposal's refusal, 0 for none, and the part after it; the old one if refused.
-#[derive(Clone, Copy)]
-pub struct Proposed {
-    pub refusal: u64,
-    pub part: CapturePart,
-}
-
-// The same of a round, with the network, the cursor and how many rows are used.
-#[derive(Clone, Copy)]
-pub struct Captured {
-    pub refusal: u64,
-    pub cursor: usize,
-    pub used: usize,
-    pub network: Network,
-    pub part: CapturePart,
 }
 
 // ---- opening
@@ -76,91 +59,71 @@ impl CapturePart {
         let held = empty_payloads();
         CapturePart {
             term,
-            initiator: 0,
-            proposed: false,
+            initiator: None,
             raised: false,
             held,
         }
     }
 }
 
-// ---- propose
-
-fn propose_refusal(conf: RoomConf, term: u64, v: usize) -> u64
-    ensures { result ≡ propose_refusal conf term v }
-{
-    let n = conf.round.graph.n;
-    if !room::is_size(n) {
-        return refusals::BAD_POSITIONS;
+impl CapturePart {
+    // Who proposed last; 0 while nobody has, when every round is refused.
+    pub fn proposer(&self) -> usize
+        ensures { result ≡ proposer self.now }
+    {
+        self.initiator.unwrap_or(0)
     }
-    if n <= v {
-        return refusals::NO_POSITION;
-    }
-    let kind = conf.kind;
-    if room::is_pipeline(kind) {
-        return refusals::OTHER_KIND;
-    }
-    if term == limits::LAST_TERM {
-        return refusals::NO_TERM;
-    }
-    0
 }
 
-// The part after a proposal by position v, which is one of the 64 places.
-fn propose_in(conf: RoomConf, t: CapturePart, v: usize) -> CapturePart
-    requires { v < 64 }
-    ensures { result ≡ proposed_in conf t v }
+// ---- propose
+
+#[tactic(auto, unfolding(crate::specs::Capturing::propose_test))]
+fn check_propose(conf: RoomConf, term: u64, v: usize) -> Result<(), Refusal>
+    ensures { result ≡ propose_test conf term v }
 {
-    let round = conf.round;
-    let voting = engine::voting_of(round);
+    room::check_position(conf.round.graph.n, v)?;
+    conf.kind.check_capture()?;
+    if term == limits::LAST_TERM {
+        return Err(Refusal::NoTerm);
+    }
+    Ok(())
+}
+
+// Position v proposes in the next term. A refused proposal changes nothing.
+#[tactic(auto, using(crate::proofs::Answers::position_below), unfolding(crate::specs::Capturing::propose_part, crate::specs::Capturing::proposed_in))]
+pub fn propose(conf: RoomConf, t: &mut CapturePart, v: usize) -> Result<(), Refusal>
+    ensures { record { told = result; part = t.new } ≡ propose_part conf t.old v }
+{
+    check_propose(conf, t.term, v)?;
+    let voting = engine::voting_of(conf.round);
     let packet = merging::init_proposal(voting, t.term, v);
     let mut held = empty_payloads();
     held[v] = Payload {
         held: Held::Packet,
         packet,
     };
-    CapturePart {
+    *t = CapturePart {
         term: t.term.wrapping_add(1),
-        initiator: v,
-        proposed: true,
+        initiator: Some(v),
         raised: false,
         held,
-    }
-}
-
-// Position v proposes in the next term.
-pub fn propose(conf: RoomConf, t: CapturePart, v: usize) -> Proposed
-    ensures { result ≡ propose_part conf t v }
-{
-    let refusal = propose_refusal(conf, t.term, v);
-    if refusal != 0 {
-        return Proposed { refusal, part: t };
-    }
-    Proposed {
-        refusal: 0,
-        part: propose_in(conf, t, v),
-    }
+    };
+    Ok(())
 }
 
 // ---- a round
 
 // The refusals that are known before a round runs.
-pub fn capture_refusal(conf: RoomConf, proposed: bool, slot: u64) -> u64
-    ensures { result ≡ capture_refusal conf proposed slot }
+#[tactic(auto, unfolding(crate::specs::Capturing::capture_test))]
+pub fn check_capture(conf: RoomConf, proposed: bool, slot: u64) -> Result<(), Refusal>
+    ensures { result ≡ capture_test conf proposed slot }
 {
-    let n = conf.round.graph.n;
-    if !room::is_size(n) {
-        return refusals::BAD_POSITIONS;
-    }
-    let kind = conf.kind;
-    if room::is_pipeline(kind) {
-        return refusals::OTHER_KIND;
-    }
+    check_size(conf.round.graph.n)?;
+    conf.kind.check_capture()?;
     if !proposed {
-        return refusals::NO_PROPOSAL;
+        return Err(Refusal::NoProposal);
     }
-    let round = conf.round;
-    network::long_refusal(round, slot)
+    network::check_length(conf.round, slot)
 }
 
 // The state that a round starts from.
@@ -189,7 +152,7 @@ fn raise(v: Node) -> Node
     }
 }
 
-// The progress of the first n positions, one higher.
+// The progress of the first n positions, one higher. (64 places and n: see engines src/node.rt.)
 fn raise_all(at: [Node; 64], n: usize) -> [Node; 64]
     ensures { result ≡ raised_all n at }
 {
@@ -221,68 +184,32 @@ fn keep(t: CapturePart, c: CeState) -> CapturePart
     CapturePart {
         term: t.term,
         initiator: t.initiator,
-        proposed: t.proposed,
         raised: t.raised || c.ended,
         held,
     }
 }
 
-// What the engine answers, as an answer on the parts.
-fn settled_by(
-    conf: RoomConf,
-    w: Network,
-    t: CapturePart,
-    cursor: usize,
-    used: usize,
-    a: CeAnswer,
-) -> Captured
-    ensures { result ≡ captured_by conf w t cursor used a }
-{
-    if a.refusal != 0 {
-        return Captured {
-            refusal: a.refusal,
-            cursor,
-            used,
-            network: w,
-            part: t,
-        };
-    }
-    let c = a.state;
-    let draw = c.draw;
-    Captured {
-        refusal: 0,
-        cursor: draw.at,
-        used: a.used,
-        network: settle(conf, t, c),
-        part: keep(t, c),
-    }
-}
-
-// One capture round with the words from the cursor on; its rows are written behind the rows already used.
+// One capture round with the words from the cursor on; its rows are written behind the rows already used. A refused
+// round changes nothing.
+#[tactic(auto, using(capture::proofs::Settling::refused_used), unfolding(crate::specs::Capturing::capture_part, crate::specs::Capturing::capture_rows, crate::specs::Capturing::captured_by))]
 pub fn capture_round(
     words: &[u64],
-    cursor: usize,
+    cursor: &mut usize,
     rows: &mut [u64],
-    used: usize,
+    used: &mut usize,
     conf: RoomConf,
-    w: Network,
-    t: CapturePart,
-) -> Captured
-    ensures value { result ≡ capture_part words.now (length rows.old) used conf w t cursor }
-    ensures rows_after { rows.new ≡ capture_rows words.now rows.old used conf w t cursor }
+    w: &mut Network,
+    t: &mut CapturePart,
+) -> Result<(), Refusal>
+    ensures value { record { told = result; cursor = cursor.new; used = used.new; network = w.new; part = t.new } ≡ capture_part words.now (length rows.old) used.old conf w.old t.old cursor.old }
+    ensures rows_after { rows.new ≡ capture_rows words.now rows.old used.old conf w.old t.old cursor.old }
 {
-    let refusal = capture_refusal(conf, t.proposed, w.slot);
-    if refusal != 0 {
-        return Captured {
-            refusal,
-            cursor,
-            used,
-            network: w,
-            part: t,
-        };
-    }
-    let round = conf.round;
-    let c = ce_state(w, t);
-    let a = engine::run_ce_round(words, rows, used, round, c, t.initiator, cursor);
-    settled_by(conf, w, t, cursor, used, a)
+    check_capture(conf, t.initiator.is_some(), w.slot)?;
+    let mut c = ce_state(*w, *t);
+    let initiator = t.proposer();
+    engine::run_ce_round(words, rows, used, conf.round, &mut c, initiator, *cursor)?;
+    *cursor = c.draw.at;
+    *w = settle(conf, *t, c);
+    *t = keep(*t, c);
+    Ok(())
 }

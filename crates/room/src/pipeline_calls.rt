@@ -1,13 +1,13 @@
 // RULES 11.6. What the call of a pipeline room does to the parts that it moves. A room's call is thin over this.
 ghost use Rattle.std.specs.Prelude.{◌≡◌, length};
-ghost use Rattle.room.specs.Pipelining.{pipe_conf, pipeline_refusal, pipeline_part, pipeline_rows};
+ghost use Rattle.room.specs.Pipelining.{pipe_conf, pipeline_test, pipeline_part, pipeline_rows};
 
-use super::room;
 use super::room::RoomConf;
 use engines::network::Network;
-use limits::refusals;
+use graph::network::check_size;
+use limits::refusals::Refusal;
 use pipeline::pipeline as engine;
-use pipeline::pipeline::{PipelineAnswer, PipelineConf, PipelinePart};
+use pipeline::pipeline::{PipelineConf, PipelinePart};
 
 fn pipe_conf(c: RoomConf) -> PipelineConf
     ensures { result ≡ pipe_conf c }
@@ -21,44 +21,29 @@ fn pipe_conf(c: RoomConf) -> PipelineConf
 }
 
 // The refusals that are known before a round runs.
-pub fn pipeline_refusal(conf: RoomConf, stop: bool, slot: u64) -> u64
-    ensures { result ≡ pipeline_refusal conf stop slot }
+#[tactic(auto, unfolding(crate::specs::Pipelining::pipeline_test))]
+pub fn check_pipeline(conf: RoomConf, stop: bool, slot: u64) -> Result<(), Refusal>
+    ensures { result ≡ pipeline_test conf stop slot }
 {
-    let n = conf.round.graph.n;
-    if !room::is_size(n) {
-        return refusals::BAD_POSITIONS;
-    }
-    let kind = conf.kind;
-    if !room::is_pipeline(kind) {
-        return refusals::OTHER_KIND;
-    }
-    let fixed = pipe_conf(conf);
-    engine::early_refusal(fixed, slot, stop)
+    check_size(conf.round.graph.n)?;
+    conf.kind.check_pipeline()?;
+    engine::check_early(pipe_conf(conf), slot, stop)
 }
 
-// One pipeline round: prepare, flood, process.
+// One pipeline round: prepare, flood, process. A refused round changes nothing.
+#[tactic(auto, unfolding(crate::specs::Pipelining::pipeline_part, crate::specs::Pipelining::pipeline_rows))]
 pub fn pipeline_round(
     words: &[u64],
-    cursor: usize,
+    cursor: &mut usize,
     rows: &mut [u64],
-    used: usize,
+    used: &mut usize,
     conf: RoomConf,
-    w: Network,
-    p: PipelinePart,
-) -> PipelineAnswer
-    ensures value { result ≡ pipeline_part words.now (length rows.old) used conf w p cursor }
-    ensures rows_after { rows.new ≡ pipeline_rows words.now rows.old used conf w p cursor }
+    w: &mut Network,
+    p: &mut PipelinePart,
+) -> Result<(), Refusal>
+    ensures value { record { told = result; cursor = cursor.new; used = used.new; network = w.new; part = p.new } ≡ pipeline_part words.now (length rows.old) used.old conf w.old p.old cursor.old }
+    ensures rows_after { rows.new ≡ pipeline_rows words.now rows.old used.old conf w.old p.old cursor.old }
 {
-    let refusal = pipeline_refusal(conf, p.stop, w.slot);
-    if refusal != 0 {
-        return PipelineAnswer {
-            refusal,
-            cursor,
-            used,
-            network: w,
-            part: p,
-        };
-    }
-    let fixed = pipe_conf(conf);
-    engine::pipeline_round(words, cursor, rows, used, fixed, w, p)
+    check_pipeline(conf, p.stop, w.slot)?;
+    engine::pipeline_round(words, cursor, rows, used, pipe_conf(conf), w, p)
 }

@@ -1,12 +1,12 @@
 // RULES 11.2 and 11.4. A room of 1 to 64 positions: opened once with all that is fixed, then called. Capture rooms
-// take proposals and capture rounds, pipeline rooms pipeline rounds. A refused call hands back its number, and
-// everything else as it was.
+// take proposals and capture rounds, pipeline rooms pipeline rounds. A refused call says why, and leaves everything as
+// it was.
 ghost use Rattle.std.specs.Prelude.{◌≡◌, ◌&&◌, length, ◌==◌};
 ghost use Rattle.graph.specs.Paths.{length_of};
-ghost use Rattle.graph.specs.Links.{is_size, graph_refusal};
+ghost use Rattle.graph.specs.Links.{position_test};
 ghost use Rattle.std.specs.Result.{result_unwrap_or};
-ghost use Rattle.room.specs.Kinds.{is_pipeline};
-ghost use Rattle.room.specs.Rooms.{room_limits, open_refusal, round_length, new_room, conf_of, no_conf, open_of, propose_of, capture_of, capture_buffer, pipeline_of, pipeline_buffer};
+ghost use Rattle.room.specs.Kinds.{is_pipeline, capture_only, pipeline_only};
+ghost use Rattle.room.specs.Rooms.{room_limits, open_test, round_length, new_room, conf_of, open_of, propose_of, capture_of, capture_buffer, pipeline_of, pipeline_buffer};
 
 use super::capture_calls::CapturePart;
 use super::{capture_calls, pipeline_calls};
@@ -14,8 +14,8 @@ use engines::network::{Network, RoundConf};
 use engines::settings;
 use engines::settings::Settings;
 use flood::flood as engine;
-use graph::network::NetworkGraph;
-use limits::refusals;
+use graph::network::{NetworkGraph, check_size};
+use limits::refusals::Refusal;
 use pipeline::pipeline::PipelinePart;
 
 #[derive(Clone, Copy, Debug, PartialEq, Eq)]
@@ -55,30 +55,6 @@ pub struct Asked {
     pub bound: u64,
 }
 
-// The room opened; if refused, one of no positions: a proposal, a round, the initiator, the outcome and what is read
-// of a position are 2 there, and the other readings show a room as opened.
-#[derive(Clone, Copy)]
-pub struct Opening {
-    pub refusal: u64,
-    pub room: Room,
-}
-
-// The room after a proposal; the old one if refused.
-#[derive(Clone, Copy)]
-pub struct Proposal {
-    pub refusal: u64,
-    pub room: Room,
-}
-
-// The room after a round, the cursor and how many rows are used; the old ones if refused.
-#[derive(Clone, Copy)]
-pub struct RoundAnswer {
-    pub refusal: u64,
-    pub cursor: usize,
-    pub used: usize,
-    pub room: Room,
-}
-
 // What a room never exceeds.
 #[derive(Clone, Copy)]
 pub struct Limits {
@@ -116,11 +92,38 @@ impl Room {
 
 // ---- opening
 
-// Whether a room can have so many positions.
-pub fn is_size(n: usize) -> bool
-    ensures { result ≡ is_size n }
+// Refusals 2 and 8 of a call on position v of n.
+#[tactic(auto, unfolding(graph::specs::Links::position_test))]
+pub fn check_position(n: usize, v: usize) -> Result<(), Refusal>
+    ensures { result ≡ position_test n v }
 {
-    0 < n && n <= limits::POSITIONS
+    check_size(n)?;
+    if v >= n {
+        return Err(Refusal::NoPosition);
+    }
+    Ok(())
+}
+
+impl RoomKind {
+    // Refusal 11 of a call for a capture room.
+    pub fn check_capture(self) -> Result<(), Refusal>
+        ensures { result ≡ capture_only self }
+    {
+        match self {
+            RoomKind::Pipeline => Err(Refusal::OtherKind),
+            RoomKind::Capture => Ok(()),
+        }
+    }
+
+    // Of one for a pipeline room.
+    pub fn check_pipeline(self) -> Result<(), Refusal>
+        ensures { result ≡ pipeline_only self }
+    {
+        match self {
+            RoomKind::Pipeline => Ok(()),
+            RoomKind::Capture => Err(Refusal::OtherKind),
+        }
+    }
 }
 
 pub fn is_pipeline(kind: RoomKind) -> bool
@@ -135,34 +138,27 @@ fn no_repeats(kind: RoomKind, repeats: u32) -> bool
     is_pipeline(kind) && repeats == 0
 }
 
-// 2 and 3 of the links, by their numbers.
-fn links_refusal(graph: &NetworkGraph) -> u64
-    ensures { result ≡ graph_refusal graph.now }
-{
-    refusals::answer(graph.check())
-}
-
-pub fn open_refusal(a: Asked) -> u64
-    ensures { result ≡ open_refusal a }
-{
-    let links = links_refusal(&a.graph);
-    if links != 0 {
-        return links;
+impl Asked {
+    // Refusals 2 to 7.
+    #[tactic(auto, unfolding(crate::specs::Rooms::open_test))]
+    pub fn check(&self) -> Result<(), Refusal>
+        ensures { result ≡ open_test self.now }
+    {
+        self.graph.check()?;
+        if !settings::loss_accepted(self.settings.loss_rate) {
+            return Err(Refusal::BadLoss);
+        }
+        if no_repeats(self.kind, self.settings.flood_repeats) {
+            return Err(Refusal::NoRepeats);
+        }
+        if self.interval == 0 {
+            return Err(Refusal::NoInterval);
+        }
+        if Room::TRANSACTIONS < self.transactions {
+            return Err(Refusal::ManyTransactions);
+        }
+        Ok(())
     }
-    if !settings::loss_accepted(a.settings.loss_rate) {
-        return refusals::BAD_LOSS;
-    }
-    let kind = a.kind;
-    if no_repeats(kind, a.settings.flood_repeats) {
-        return refusals::NO_REPEATS;
-    }
-    if a.interval == 0 {
-        return refusals::NO_INTERVAL;
-    }
-    if Room::TRANSACTIONS < a.transactions {
-        return refusals::MANY_TRANSACTIONS;
-    }
-    0
 }
 
 // Only a flood's length needs the diameter.
@@ -198,23 +194,6 @@ pub fn conf_of(a: Asked) -> RoomConf
     }
 }
 
-fn no_conf(kind: RoomKind, settings: Settings) -> RoomConf
-    ensures { result ≡ no_conf kind settings }
-{
-    let adj = [0u64; 64];
-    RoomConf {
-        kind,
-        round: RoundConf {
-            graph: NetworkGraph { n: 0, adj },
-            settings,
-            interval: 0,
-            length: 0,
-        },
-        transactions: 0,
-        bound: 0,
-    }
-}
-
 fn new_room(conf: RoomConf, term: u64) -> Room
     ensures { result ≡ new_room conf term }
 {
@@ -229,95 +208,54 @@ fn new_room(conf: RoomConf, term: u64) -> Room
 // ---- the calls
 
 impl Room {
-    pub fn open(asked: Asked) -> Opening
+    // A refused opening gives no room.
+    #[tactic(auto, unfolding(crate::specs::Rooms::open_of))]
+    pub fn open(asked: Asked) -> Result<Room, Refusal>
         ensures { result ≡ open_of asked }
     {
-        let refusal = open_refusal(asked);
-        if refusal != 0 {
-            let kind = asked.kind;
-            let settings = asked.settings;
-            let none = no_conf(kind, settings);
-            return Opening {
-                refusal,
-                room: new_room(none, 0),
-            };
-        }
-        let conf = conf_of(asked);
-        Opening {
-            refusal: 0,
-            room: new_room(conf, asked.term),
-        }
+        asked.check()?;
+        Ok(new_room(conf_of(asked), asked.term))
     }
 
     // Position v proposes in the next term.
-    pub fn propose(self, v: usize) -> Proposal
-        ensures { result ≡ propose_of self v }
+    #[tactic(auto, unfolding(crate::specs::Rooms::propose_of))]
+    pub fn propose(&mut self, v: usize) -> Result<(), Refusal>
+        ensures { record { told = result; room = self.new } ≡ propose_of self.old v }
     {
-        let conf = self.conf;
-        let t = self.capture;
-        let p = capture_calls::propose(conf, t, v);
-        let part = p.part;
-        let mut room = self;
-        room.capture = part;
-        Proposal {
-            refusal: p.refusal,
-            room,
-        }
+        capture_calls::propose(self.conf, &mut self.capture, v)
     }
 
-    // One capture round with the words from the cursor on; its rows are written behind the rows already used.
+    // One capture round with the words from the cursor on; its rows are written behind the rows already used. It and
+    // the next have one line each, and hand their own part to their own call: one for both would take both as
+    // arguments.
+    #[tactic(auto, unfolding(crate::specs::Rooms::capture_of))]
     pub fn capture_round(
-        self,
+        &mut self,
         words: &[u64],
-        cursor: usize,
+        cursor: &mut usize,
         rows: &mut [u64],
-        used: usize,
-    ) -> RoundAnswer
-        ensures value { result ≡ capture_of words.now (length rows.old) used self cursor }
-        ensures rows_after { rows.new ≡ capture_buffer words.now rows.old used self cursor }
+        used: &mut usize,
+    ) -> Result<(), Refusal>
+        ensures value { record { told = result; cursor = cursor.new; used = used.new; room = self.new } ≡ capture_of words.now (length rows.old) used.old self.old cursor.old }
+        ensures rows_after { rows.new ≡ capture_buffer words.now rows.old used.old self.old cursor.old }
     {
-        let conf = self.conf;
-        let w = self.network;
-        let t = self.capture;
-        let a = capture_calls::capture_round(words, cursor, rows, used, conf, w, t);
-        let network = a.network;
-        let part = a.part;
-        let mut room = self;
-        room.network = network;
-        room.capture = part;
-        RoundAnswer {
-            refusal: a.refusal,
-            cursor: a.cursor,
-            used: a.used,
-            room,
-        }
+        let w = &mut self.network;
+        capture_calls::capture_round(words, cursor, rows, used, self.conf, w, &mut self.capture)
     }
 
     // One pipeline round: prepare, flood, process.
+    #[tactic(auto, unfolding(crate::specs::Rooms::pipeline_of))]
     pub fn pipeline_round(
-        self,
+        &mut self,
         words: &[u64],
-        cursor: usize,
+        cursor: &mut usize,
         rows: &mut [u64],
-        used: usize,
-    ) -> RoundAnswer
-        ensures value { result ≡ pipeline_of words.now (length rows.old) used self cursor }
-        ensures rows_after { rows.new ≡ pipeline_buffer words.now rows.old used self cursor }
+        used: &mut usize,
+    ) -> Result<(), Refusal>
+        ensures value { record { told = result; cursor = cursor.new; used = used.new; room = self.new } ≡ pipeline_of words.now (length rows.old) used.old self.old cursor.old }
+        ensures rows_after { rows.new ≡ pipeline_buffer words.now rows.old used.old self.old cursor.old }
     {
-        let conf = self.conf;
-        let w = self.network;
-        let p = self.pipeline;
-        let a = pipeline_calls::pipeline_round(words, cursor, rows, used, conf, w, p);
-        let network = a.network;
-        let part = a.part;
-        let mut room = self;
-        room.network = network;
-        room.pipeline = part;
-        RoundAnswer {
-            refusal: a.refusal,
-            cursor: a.cursor,
-            used: a.used,
-            room,
-        }
+        let w = &mut self.network;
+        pipeline_calls::pipeline_round(words, cursor, rows, used, self.conf, w, &mut self.pipeline)
     }
 }

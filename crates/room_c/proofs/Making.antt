@@ -1,15 +1,15 @@
 -- What each arm of a call leaves is what the rule says of the call of that number, in lists that begin at its own
 -- places. Assumes nothing.
-use mathlib.Core.List.{List}
+use mathlib.Core.List.{List, [], ◌∷◌}
+use Rattle.limits.specs.Refusals.{answer_of as tell, Tested}
 use mathlib.Core.Logic.{◌⊎◌}
-use mathlib.Core.Path.{◌≡◌}
+use mathlib.Core.Path.{◌≡◌, ap}
 use Prim.Native.Nat.{ℕ, ◌-◌, ◌<◌, ◌≤◌}
 use lib.Ieee.{Float}
 use lib.ListN.{length}
 use lib.Seq.{sets}
-use Rattle.room.specs.Rooms.{capture_of, capture_buffer, pipeline_of, pipeline_buffer}
+use Rattle.room.specs.Rooms.{RoundAnswer, capture_of, capture_buffer, pipeline_of, pipeline_buffer}
 use Rattle.room.specs.declared.room.Room.{Room}
-use Rattle.room.specs.declared.room.RoundAnswer.{RoundAnswer}
 use Rattle.demand.specs.Calls.{Propose, handed}
 use Rattle.room_c.specs.Answers.{told_in}
 use Rattle.room_c.specs.Console.{
@@ -18,7 +18,6 @@ use Rattle.room_c.specs.Console.{
   call_table,
   Calling,
   call_by,
-  round_said,
   call_said,
   rows_left,
   untold,
@@ -38,21 +37,37 @@ module _ (ws : List ℕ) (which a b c : ℕ) (w : Calling) where
   unfolding called call_by call_table rows_left call_said
   proposed e h t = rw (e, h, t)
 
-  -- a round's answer
-  abbrev Round : RoundAnswer → List ℕ → List ℕ → Room → Type 0
-  Round x rows told r = (r ≡ x.room) × (told ≡ sets w.told 0 (told_in (round_said x)))
-
-  pub captured : {x : RoundAnswer} {rows told : List ℕ} {r : Room} → which ≡ 2
-      → x ≡ capture_of ws (length w.rows) c w.room b → rows ≡ capture_buffer ws w.rows c w.room b
-      → Round x rows told r → Left rows told w.floats w.text r
+  pub captured : {q : Tested} {cursor used : ℕ} {rows told : List ℕ} {r : Room} → which ≡ 2
+      → record { told = q; cursor = cursor; used = used; room = r } ≡ capture_of ws (length w.rows) c w.room b
+      → rows ≡ capture_buffer ws w.rows c w.room b
+      → told ≡ sets w.told 0 (tell q ∷ cursor ∷ used ∷ []) → Left rows told w.floats w.text r
   unfolding called call_by call_table rows_left call_said handed
-  captured e x h t = rw (e, h, t.0, t.1, x)
+  captured e x h t =
+      rw (
+        e,
+        h,
+        t,
+        ap (λ (a : RoundAnswer). a.told) x,
+        ap (λ (a : RoundAnswer). a.cursor) x,
+        ap (λ (a : RoundAnswer). a.used) x,
+        ap (λ (a : RoundAnswer). a.room) x,
+      )
 
-  pub piped : {x : RoundAnswer} {rows told : List ℕ} {r : Room} → which ≡ 3
-      → x ≡ pipeline_of ws (length w.rows) c w.room b → rows ≡ pipeline_buffer ws w.rows c w.room b
-      → Round x rows told r → Left rows told w.floats w.text r
+  pub piped : {q : Tested} {cursor used : ℕ} {rows told : List ℕ} {r : Room} → which ≡ 3
+      → record { told = q; cursor = cursor; used = used; room = r } ≡ pipeline_of ws (length w.rows) c w.room b
+      → rows ≡ pipeline_buffer ws w.rows c w.room b
+      → told ≡ sets w.told 0 (tell q ∷ cursor ∷ used ∷ []) → Left rows told w.floats w.text r
   unfolding called call_by call_table rows_left call_said handed
-  piped e x h t = rw (e, h, t.0, t.1, x)
+  piped e x h t =
+      rw (
+        e,
+        h,
+        t,
+        ap (λ (a : RoundAnswer). a.told) x,
+        ap (λ (a : RoundAnswer). a.cursor) x,
+        ap (λ (a : RoundAnswer). a.used) x,
+        ap (λ (a : RoundAnswer). a.room) x,
+      )
 
   pub whole_read : {told : List ℕ} {floats : List Float} → 4 ≤ which → which < 18
       → (told ≡ sets w.told 0 (told_in (whole_said which w.room)))

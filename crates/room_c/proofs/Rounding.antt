@@ -1,32 +1,34 @@
 -- A round of pipeline_c's entry is a call of a room, and its rounds one after the other are a list of calls. Assumes
 -- nothing.
-use mathlib.Core.Bool.{Bool, true, false, not, ◌||◌, false≢true}
+use mathlib.Core.Bool.{Bool, true, false, not}
 use mathlib.Core.List.{List, [], ◌∷◌, Memᴰ}
 use mathlib.Core.Path.{◌≡◌, refl, sym, ◌∙◌, ap, subst}
 use Prim.Native.Nat.{ℕ, zero, suc, ◌+◌, ◌*◌, ◌%◌, ◌<◌, ◌≤◌, ◌^◌}
 use native.Mathlib.Nat.{mod-lt, mod-eq_of_lt, mod-add-mod}
 use native.Mathlib.Omega.{arith}
-use lib.Dec.{eqb, ltb, leb}
 use lib.ListN.{length, take}
-use borrow.Author.Tests.{eqb-true, eqb-false, ltb-true, ltb-false, leb-true}
+use Rattle.std.specs.Prelude.{Result, Ok, Err, is_ok}
+use Rattle.std.specs.Result.{result_and}
+use Rattle.limits.specs.Refusals.{Tested}
+use Rattle.limits.specs.declared.refusals.Refusal.{Refusal}
 use Rattle.loops.specs.Pick.{either}
 use Rattle.loops.specs.Runs.{go}
 use Rattle.loops.specs.Wrap.{add64}
 use Rattle.merges.proofs.Safety.{either_cases}
-use Rattle.graph.specs.Links.{is_size, size_test, graph_test}
-use Rattle.graph.proofs.Answers.{size_none, size_many, size_ok}
+use Rattle.graph.specs.Links.{size_test}
 use Rattle.engines.specs.Nodes.{inc, total}
 use Rattle.engines.specs.Network.{new_network}
 use Rattle.engines.proofs.Sums.{new_counts, first_total}
 use Rattle.engines.specs.declared.network.Network.{Network}
-use Rattle.pipeline.specs.Round.{early_refusal, round_refusal, round_answer, round_buffer}
+use Rattle.pipeline.specs.Round.{early_test, round_test, PipelineAnswer, refused_with, round_answer, round_buffer}
 use Rattle.pipeline.specs.declared.pipeline.PipelineConf.{PipelineConf}
 use Rattle.pipeline.specs.declared.pipeline.PipelinePart.{PipelinePart}
 use Rattle.pipeline_c.specs.Console.{opened}
-use Rattle.pipeline_c.specs.Play.{Playing, count_after, noted, play_round, is_refused, play_rounds}
+use Rattle.pipeline_c.specs.Play.{Playing, count_after, play_round, is_refused, play_rounds}
 use Rattle.room.specs.Capturing.{new_capture}
-use Rattle.room.specs.Pipelining.{pipe_conf, pipeline_refusal, pipeline_part, pipeline_rows}
-use Rattle.room.specs.Rooms.{size_of, open_refusal, conf_of, new_room, open_of, pipeline_of}
+use Rattle.room.specs.Pipelining.{pipe_conf, pipeline_test, pipeline_part, pipeline_rows}
+use Rattle.room.specs.Rooms.{size_of, open_test, conf_of, new_room, opened_by, pipeline_of}
+use Rattle.room.proofs.Calling.{opened_size}
 use Rattle.room.specs.declared.capture_calls.CapturePart.{CapturePart}
 use Rattle.room.specs.declared.room.Asked.{Asked}
 use Rattle.room.specs.declared.room.Room.{Room}
@@ -51,49 +53,42 @@ use Rattle.room_c.specs.Rounds.{
 
 -- ---- one round: what a room asks before it calls the engine, the engine asks too
 
--- either way a test may come out
-decide : {P : Type 0} (b : Bool) → (b ≡ true → P) → (b ≡ false → P) → P
-decide true f g = f refl
-decide false f g = g refl
-
-sized : (n : ℕ) → not (is_size n) ≡ (eqb n 0 || ltb 64 n)
-sized n =
-    decide (eqb n 0) (λ e. rw (e, size_none n (eqb-true n 0 e)))
-    (λ e. decide (ltb 64 n) (λ l. rw (e, l, size_many n (ltb-true 64 n l)))
-    (λ l. rw (e, l, size_ok n (let z = eqb-false n 0 e in omega arith) (ltb-false 64 n l))))
-
-size_is : (n : ℕ) → is_size n ≡ true → (0 < n) × (n ≤ 64)
-size_is n s =
-    decide (ltb 0 n) (λ a. decide (leb n 64) (λ b. (ltb-true 0 n a, leb-true n 64 b))
-    (λ b. absurd (false≢true (rw (a, b) at s)))) (λ a. absurd (false≢true (rw a at s)))
-
-twice : {A : Type 0} (b : Bool) (x y : A) → either b x (either b x y) ≡ either b x y
-twice true x y = refl
-twice false x y = refl
+-- a test asked twice
+twice : {A : Type 0} (t : Tested) (r : Result A Refusal) → result_and t (result_and t r) ≡ result_and t r
+twice (Ok x) r = refl
+twice (Err k) r = refl
 
 module _ (conf : PipelineConf) where
-  early_same : (slot : ℕ) (stop : Bool) → pipeline_refusal (fixed_of conf) stop slot ≡ early_refusal conf slot stop
-  unfolding pipeline_refusal early_refusal
-  early_same slot stop =
-      let n = conf.round.graph.n in
-      rw (sized n) (twice (eqb n 0 || ltb 64 n) _ _)
+  early_same : (slot : ℕ) (stop : Bool) → pipeline_test (fixed_of conf) stop slot ≡ early_test conf slot stop
+  unfolding pipeline_test early_test
+  early_same slot stop = twice (size_test conf.round.graph.n) _
 
   module _ (ws rows : List ℕ) (used : ℕ) (w : Network) (p : PipelinePart) (cursor : ℕ) where
-    abbrev early : ℕ
-    early = early_refusal conf w.slot p.stop
+    abbrev Round : Tested → PipelineAnswer
+    Round t =
+        either (is_ok t) (round_answer ws (length rows) used conf w p cursor) (refused_with t w p cursor used)
 
     round_same : pipeline_part ws (length rows) used (fixed_of conf) w p cursor
         ≡ round_answer ws (length rows) used conf w p cursor
-    unfolding pipeline_part round_answer round_refusal
-    round_same = rw (early_same w.slot p.stop) (decide (eqb early 0) (λ e. rw e) (λ e. rw (e, e)))
+    unfolding pipeline_part round_answer round_test
+    round_same = rw (early_same w.slot p.stop) (by (early_test conf w.slot p.stop) refl)
+      where
+        by : (t : Tested) → early_test conf w.slot p.stop ≡ t → Round t ≡ round_answer ws (length rows) used conf w p cursor
+        by (Ok x) e = refl
+        by (Err k) e = rw e
 
     rows_same : pipeline_rows ws rows used (fixed_of conf) w p cursor ≡ round_buffer ws rows used conf w p cursor
-    unfolding pipeline_rows round_buffer round_refusal
-    rows_same = rw (early_same w.slot p.stop) (decide (eqb early 0) (λ e. rw e) (λ e. rw (e, e)))
+    unfolding pipeline_rows round_buffer round_test
+    rows_same = rw (early_same w.slot p.stop) (by (early_test conf w.slot p.stop) refl)
+      where
+        by : (t : Tested) → early_test conf w.slot p.stop ≡ t
+            → either (is_ok t) (round_buffer ws rows used conf w p cursor) rows ≡ round_buffer ws rows used conf w p cursor
+        by (Ok x) e = refl
+        by (Err k) e = rw e
 
   turn_same : (ws : List ℕ) (c : CapturePart) (w : Playing)
       → next_turn ws (turn_of conf c w) ≡ turn_of conf c (play_round ws conf w)
-  unfolding next_turn pipeline_of play_round noted
+  unfolding next_turn pipeline_of play_round
   turn_same ws c w =
       let t = w.played in
       rw (
@@ -118,7 +113,7 @@ Leads ws k t = after (round_calls ws k t) t.answer.room ≡ (last_turn ws k t).a
 room_after : (ws : List ℕ) (k : ℕ) (t : Turn) → Leads ws k t
 unfolding round_calls last_turn after handed next_turn go
 room_after ws zero t = refl
-room_after ws (suc k) t = by (room_after ws k (next_turn ws t)) (eqb t.answer.refusal 0)
+room_after ws (suc k) t = by (room_after ws k (next_turn ws t)) (is_ok t.answer.told)
   where
     Same : List Call → Bool → Type 0
     Same cs b = after cs t.answer.room ≡ (go is_over (next_turn ws) (suc k) b t).answer.room
@@ -130,9 +125,9 @@ room_after ws (suc k) t = by (room_after ws k (next_turn ws t)) (eqb t.answer.re
 
 -- ---- how many are accepted
 
-one_counted : (count refusal m : ℕ) → add64 (count_after count refusal) m ≡ add64 count (either (eqb refusal 0) 1 0 + m)
+one_counted : (count : ℕ) (told : Tested) (m : ℕ) → add64 (count_after count told) m ≡ add64 count (either (is_ok told) 1 0 + m)
 unfolding count_after
-one_counted count refusal m = by (eqb refusal 0)
+one_counted count told m = by (is_ok told)
   where
     by : (b : Bool) → add64 (either b (inc count) count) m ≡ add64 count (either b 1 0 + m)
     by true = mod-add-mod (count + 1) (2 ^ 64) m ∙ ap (λ (x : ℕ). x % 2 ^ 64) (omega arith)
@@ -141,10 +136,10 @@ one_counted count refusal m = by (eqb refusal 0)
 none_counted : {count : ℕ} → count < 2 ^ 64 → count ≡ add64 count 0
 none_counted {count} h = sym (ap (λ (x : ℕ). x % 2 ^ 64) (omega arith) ∙ mod-eq_of_lt h)
 
-count_fits : (count refusal : ℕ) → count < 2 ^ 64 → count_after count refusal < 2 ^ 64
+count_fits : (count : ℕ) (told : Tested) → count < 2 ^ 64 → count_after count told < 2 ^ 64
 unfolding count_after
-count_fits count refusal h =
-    either_cases (λ (x : ℕ). x < 2 ^ 64) (eqb refusal 0) (λ e. mod-lt (count + 1) (omega arith)) (λ e. h)
+count_fits count told h =
+    either_cases (λ (x : ℕ). x < 2 ^ 64) (is_ok told) (λ e. mod-lt (count + 1) (omega arith)) (λ e. h)
 
 module _ (ws : List ℕ) (conf : PipelineConf) (c : CapturePart) where
   -- those of the calls of k rounds
@@ -155,10 +150,10 @@ module _ (ws : List ℕ) (conf : PipelineConf) (c : CapturePart) where
   Counts k w = (play_rounds ws conf k w).played.count ≡ add64 w.played.count (accepted k (turn_of conf c w))
 
   counted : (k : ℕ) (w : Playing) → w.played.count < 2 ^ 64 → Counts k w
-  unfolding play_rounds play_round noted round_calls rounds_in round_in handed next_turn go
+  unfolding play_rounds play_round round_calls rounds_in round_in handed next_turn go
   counted zero w h = none_counted h
   counted (suc k) w h =
-      by (counted k v (count_fits w.played.count v.played.refusal h)) (eqb w.played.refusal 0)
+      by (counted k v (count_fits w.played.count v.told h)) (is_ok w.told)
     where
       t : Turn
       t = turn_of conf c w
@@ -172,31 +167,17 @@ module _ (ws : List ℕ) (conf : PipelineConf) (c : CapturePart) where
       by : Counts k v → (b : Bool)
           → Told (rounds_in (either b (next_call ws t ∷ round_calls ws k (next_turn ws t)) []) t.answer.room) (not b)
       by e true =
-          subst (λ (u : Turn). Told (either (eqb u.answer.refusal 0) 1 0 + accepted k u) false)
+          subst (λ (u : Turn). Told (either (is_ok u.answer.told) 1 0 + accepted k u) false)
           (sym (turn_same conf ws c w))
-          (e ∙ one_counted w.played.count v.played.refusal (accepted k (turn_of conf c v)))
+          (e ∙ one_counted w.played.count v.told (accepted k (turn_of conf c v)))
       by e false = none_counted h
 
 -- ---- from an opening
 
-accepted_room : (a : Asked) → (open_of a).refusal ≡ 0
-    → (open_refusal a ≡ 0) × ((open_of a).room ≡ new_room (conf_of a) a.term)
-unfolding open_of
-accepted_room a z =
-    decide (eqb (open_refusal a) 0) (λ o. (eqb-true (open_refusal a) 0 o, rw o))
-    (λ o. absurd (eqb-false (open_refusal a) 0 o (rw o at z)))
-
-opened_room : (a : Asked) → a.kind ≡ kinds.Pipeline → (open_of a).refusal ≡ 0
-    → room_of (pipe_conf (conf_of a)) (new_capture a.term) opened ≡ (open_of a).room
+opened_room : (a : Asked) → a.kind ≡ kinds.Pipeline → open_test a ≡ Ok tt
+    → room_of (pipe_conf (conf_of a)) (new_capture a.term) opened ≡ opened_by a
 unfolding new_room
-opened_room a e z = rw ((accepted_room a z).1, e)
-
--- an accepted opening has 1 to 64 positions
-accepted_size : (a : Asked) → open_refusal a ≡ 0 → is_size a.graph.n ≡ true
-unfolding open_refusal graph_test size_test
-accepted_size a z =
-    decide (is_size a.graph.n) (λ s. s)
-    (λ s. absurd (let h : ◌≡◌ {A = ℕ} 2 0 = rw s at z in omega arith))
+opened_room a e z = rw e
 
 first_moment : (calls : List Call) (r : Room) → Memᴰ r (moments calls r)
 unfolding moments
@@ -204,11 +185,10 @@ first_moment [] r = Memᴰ.head refl
 first_moment (c ∷ cs) r = Memᴰ.head refl
 
 -- nothing is counted in it, and its slot is 1
-not_counted : (n e : ℕ) (w : Network) → is_size n ≡ true → w ≡ ahead → w.slot ≡ e → total (take n w.nodes) ≡ n * e
+not_counted : (n e : ℕ) (w : Network) → (0 < n) × (n ≤ 64) → w ≡ ahead → w.slot ≡ e → total (take n w.nodes) ≡ n * e
     → ⊥
 unfolding new_network
-not_counted n e w s q z t =
-    let few = size_is n s in
+not_counted n e w few q z t =
     let none : total (take n ahead.nodes) ≡ n * 0 = first_total ahead.nodes (new_counts n few.1) in
     let one : 1 ≡ e = sym (ap (λ (x : Network). x.slot) q) ∙ z in
     let same = ap (λ (x : Network). total (take n x.nodes)) q in
@@ -216,15 +196,13 @@ not_counted n e w s q z t =
     let some = few.0 in
     omega arith
 
-never_ahead : (a : Asked) → a.term < 2 ^ 64 → (open_of a).refusal ≡ 0 → (calls : List Call)
-    → (after calls (open_of a).room).network ≡ ahead → ⊥
+never_ahead : (a : Asked) → a.term < 2 ^ 64 → open_test a ≡ Ok tt → (calls : List Call)
+    → (after calls (opened_by a)).network ≡ ahead → ⊥
 unfolding new_room
 never_ahead a t z calls e =
-    let o = accepted_room a z in
-    let r = (open_of a).room in
+    let r = opened_by a in
     let h = demand3 a t z calls r (first_moment calls r) in
-    let size : is_size (size_of r) ≡ true = rw o.1 (accepted_size a o.0) in
-    not_counted (size_of r) (elapsed calls r) (after calls r).network size e h.slot h.counts
+    not_counted (size_of r) (elapsed calls r) (after calls r).network (opened_size a z) e h.slot h.counts
 
 -- ---- the law
 

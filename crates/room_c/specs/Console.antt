@@ -1,18 +1,18 @@
 -- RULES 17, entries on slices and numbers: a room opened and called by lent
 -- lists of numbers, and its account as such a list. A place past the end reads as 0, and nothing is put there. Assumes
 -- nothing.
-use Rattle.std.specs.Prelude.{ℕ, ◌+◌, ◌-◌, ◌*◌, ◌/◌, ◌%◌, ◌^◌, List, [], ◌∷◌, ◌++◌, map, eqb, Float, length, get_or, set, Option, None, Some}
+use Rattle.room.specs.Capturing.{proposer}
+use Rattle.std.specs.Prelude.{ℕ, ◌+◌, ◌-◌, ◌*◌, ◌/◌, ◌%◌, ◌^◌, List, [], ◌∷◌, ◌++◌, map, eqb, Float, length, get_or, set, Option, None, Some, Result, Ok, Err, is_some}
 use Rattle.std.proofs.lemmas.List.Edits.{sets}
 use mir.Val.{bool_byte}
 use Rattle.loops.specs.Pick.{either}
 use Rattle.loops.specs.Upto.{upto}
 use Rattle.engines_c.specs.Numbers.{truth}
 use Rattle.engines_c.specs.Payloads.{put_held}
-use Rattle.engines.specs.Network.{or_else}
 use Rattle.engines.specs.declared.settings.Settings.{Settings}
-use Rattle.std.specs.Result.{result_unwrap_or}
-use Rattle.limits.specs.Refusals.{answer_of as tell}
-use Rattle.graph.specs.Links.{no_graph, rows_of}
+use Rattle.limits.specs.Refusals.{answer_of as tell, number_of, and_then}
+use Rattle.limits.specs.declared.refusals.Refusal.{Refusal}
+use Rattle.graph.specs.Links.{rows_of}
 use Rattle.graph.specs.declared.network.NetworkGraph.{NetworkGraph}
 use Rattle.pipeline_c.specs.Console.{put_played}
 use Rattle.pipeline_c.specs.declared.rounds.Played.{Played}
@@ -20,9 +20,7 @@ use Rattle.room.specs.declared.room.RoomKind.{RoomKind}
 use Rattle.room.specs.declared.room.RoomKind.TheVariants as kinds
 use Rattle.room.specs.declared.room.Room.{Room}
 use Rattle.room.specs.declared.room.Asked.{Asked}
-use Rattle.room.specs.declared.room.Opening.{Opening}
-use Rattle.room.specs.declared.room.RoundAnswer.{RoundAnswer}
-use Rattle.room.specs.Rooms.{open_of, propose_of, capture_of, capture_buffer, pipeline_of, pipeline_buffer}
+use Rattle.room.specs.Rooms.{open_of, propose_of, RoundAnswer, capture_of, capture_buffer, pipeline_of, pipeline_buffer}
 use Rattle.readings.specs.Calls.{
   Reading,
   kind,
@@ -83,11 +81,8 @@ asked_by xs loss p g =
     }
 
 -- The refusal of the rows (2 and 3), or else of the opening with the graph that they make.
-unfoldable pub opening_by : List ℕ → Float → Float → List ℕ → Opening
-opening_by xs loss p links =
-    let b = rows_of links in
-    let o = open_of (asked_by xs loss p (result_unwrap_or b no_graph)) in
-    record { refusal = or_else (tell b) o.refusal; room = o.room }
+unfoldable pub opening_by : List ℕ → Float → Float → List ℕ → Result Room Refusal
+opening_by xs loss p links = and_then (rows_of links) (λ g. open_of (asked_by xs loss p g))
 
 -- ---- which call it is
 
@@ -138,10 +133,10 @@ call_at ws calls i w =
 
 -- a round's cursor and the rows used; refused, these are as they were handed over
 abbrev pub round_said : RoundAnswer → Said
-round_said a = plain a.refusal (a.cursor ∷ a.used ∷ [])
+round_said a = plain (tell a.told) (a.cursor ∷ a.used ∷ [])
 
 unfoldable pub call_said : Call → Room → Said
-call_said (Propose v) r = plain (propose_of r v).refusal []
+call_said (Propose v) r = plain (tell (propose_of r v).told) []
 call_said (CaptureRound ws cursor rows used) r = round_said (capture_of ws (length rows) used r cursor)
 call_said (PipelineRound ws cursor rows used) r = round_said (pipeline_of ws (length rows) used r cursor)
 call_said (Read q) r = said (answer_of q r)
@@ -196,12 +191,12 @@ play ws calls w = play_first (length calls / 4) ws calls w
 
 -- as the pipeline's console has it, with nothing of a call, and behind it what that has not
 abbrev pub played_by : Room → Played
-played_by r = record { refusal = 0; cursor = 0; used = 0; count = 0; network = r.network; part = r.pipeline }
+played_by r = record { cursor = 0; used = 0; count = 0; network = r.network; part = r.pipeline }
 
 unfoldable pub term_numbers : Room → List ℕ
 term_numbers r =
     let x = r.capture in
-    x.term ∷ x.initiator ∷ bool_byte x.proposed ∷ bool_byte x.raised ∷ []
+    x.term ∷ proposer x ∷ bool_byte (is_some x.initiator) ∷ bool_byte x.raised ∷ []
 
 unfoldable pub put_room : Room → List ℕ → List ℕ
 put_room r xs = put_held 9753 r.capture.held (sets (put_played (played_by r) xs) 9749 (term_numbers r))
@@ -223,8 +218,9 @@ ended k w out =
 
 -- the opening's refusal; with one nothing is called, and every list stays as it is
 unfoldable pub run_from :
-    Opening → List ℕ → List ℕ → List ℕ → List ℕ → List Float → List ℕ → List ℕ → Run
-run_from o ws calls rows told floats text out =
-    let w : Calling = record { rows = rows; told = told; floats = floats; text = text; room = o.room } in
-    let v = play ws calls w in
-    either (eqb o.refusal 0) (ended 0 v (put_room v.room out)) (ended o.refusal w out)
+    Result Room Refusal → List ℕ → List ℕ → List ℕ → List ℕ → List Float → List ℕ → List ℕ → Run
+run_from (Ok r) ws calls rows told floats text out =
+    let w : Calling = record { rows = rows; told = told; floats = floats; text = text; room = r } in
+    let v = play ws calls w in ended 0 v (put_room v.room out)
+run_from (Err k) ws calls rows told floats text out =
+    record { answer = number_of k; rows = rows; told = told; floats = floats; text = text; out = out }

@@ -5,7 +5,7 @@
 -- calls lead to: there the entry is more general. It takes a full length that no diameter gives, settings that no
 -- opening accepts, and states that no call leaves (`beyond`). With what an accepted opening fixes, and from the state
 -- `opened`, it is a room's (`start`), and what holds of every list of calls from an opening holds of it.
-use Rattle.std.specs.Prelude.{Bool, not, List, [], ◌∷◌, ◌≡◌, ℕ, zero, suc, ◌<◌, ◌^◌, eqb, length}
+use Rattle.std.specs.Prelude.{Bool, not, List, [], ◌∷◌, ◌≡◌, ℕ, zero, suc, ◌<◌, ◌^◌, Ok, is_ok, length}
 use Rattle.loops.specs.Pick.{either}
 use Rattle.loops.specs.Runs.{runs}
 use Rattle.loops.specs.Wrap.{add64}
@@ -17,13 +17,12 @@ use Rattle.pipeline_c.specs.Play.{Playing, play_rounds}
 use Rattle.pipeline_c.specs.declared.rounds.Played.{Played}
 use Rattle.room.specs.Capturing.{new_capture}
 use Rattle.room.specs.Pipelining.{pipe_conf}
-use Rattle.room.specs.Rooms.{conf_of, open_of, pipeline_of, pipeline_buffer}
+use Rattle.room.specs.Rooms.{conf_of, open_test, opened_by, RoundAnswer, pipeline_of, pipeline_buffer}
 use Rattle.room.specs.declared.capture_calls.CapturePart.{CapturePart}
 use Rattle.room.specs.declared.room.Asked.{Asked}
 use Rattle.room.specs.declared.room.Room.{Room}
 use Rattle.room.specs.declared.room.RoomConf.{RoomConf}
 use Rattle.room.specs.declared.room.RoomKind.TheVariants as kinds
-use Rattle.room.specs.declared.room.RoundAnswer.{RoundAnswer}
 use Rattle.demand.specs.Calls.{Call, PipelineRound, after}
 use Rattle.demand.specs.Rounds.{rounds_in}
 
@@ -50,10 +49,10 @@ next_turn ws t =
 -- the calls of k rounds, none behind one that was refused
 unfoldable pub round_calls : List ℕ → ℕ → Turn → List Call
 round_calls ws zero t = []
-round_calls ws (suc k) t = either (eqb t.answer.refusal 0) (next_call ws t ∷ round_calls ws k (next_turn ws t)) []
+round_calls ws (suc k) t = either (is_ok t.answer.told) (next_call ws t ∷ round_calls ws k (next_turn ws t)) []
 
 abbrev pub is_over : Turn → Bool
-is_over t = not (eqb t.answer.refusal 0)
+is_over t = not (is_ok t.answer.told)
 
 -- what the last of them answers and leaves
 unfoldable pub last_turn : List ℕ → ℕ → Turn → Turn
@@ -74,7 +73,7 @@ turn_of conf c w =
     let t = w.played in
     record {
       rows = w.rows;
-      answer = record { refusal = t.refusal; cursor = t.cursor; used = t.used; room = room_of conf c t };
+      answer = record { told = w.told; cursor = t.cursor; used = t.used; room = room_of conf c t };
     }
 
 -- ---- the law
@@ -102,8 +101,8 @@ pub record PlayedRounds : Type 0 where
   pub rounds : (ws : List ℕ) (conf : PipelineConf) (c : CapturePart) (k : ℕ) (w : Playing)
       → RoundsByCalls ws conf c k w
   -- the entry's first state is that of a room as opened
-  pub start : (a : Asked) → a.kind ≡ kinds.Pipeline → (open_of a).refusal ≡ 0
-      → room_of (pipe_conf (conf_of a)) (new_capture a.term) opened ≡ (open_of a).room
+  pub start : (a : Asked) → a.kind ≡ kinds.Pipeline → open_test a ≡ Ok tt
+      → room_of (pipe_conf (conf_of a)) (new_capture a.term) opened ≡ opened_by a
   -- and there are states that no accepted opening and no calls lead to
-  pub beyond : (a : Asked) → a.term < 2 ^ 64 → (open_of a).refusal ≡ 0 → (calls : List Call)
-      → (after calls (open_of a).room).network ≡ ahead → ⊥
+  pub beyond : (a : Asked) → a.term < 2 ^ 64 → open_test a ≡ Ok tt → (calls : List Call)
+      → (after calls (opened_by a)).network ≡ ahead → ⊥

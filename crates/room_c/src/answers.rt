@@ -157,15 +157,6 @@ pub fn tell_record(told: &mut [u64], q: Result<RecordReading, Refusal>)
 
 // ---- with floats
 
-fn put_float(floats: &mut [f64], at: usize, x: f64)
-    ensures { floats.new ≡ set floats.old at x }
-{
-    // Not by get_mut: what it lends is not shown to be the place that `set` names.
-    if at < floats.len() {
-        floats[at] = x;
-    }
-}
-
 #[tactic(auto, unfolding(crate::specs::Answers::said))]
 pub fn tell_settings(told: &mut [u64], floats: &mut [f64], s: Settings)
     ensures told_after { told.new ≡ sets told.old 0 (told_in (said (the_settings s))) }
@@ -180,8 +171,8 @@ pub fn tell_settings(told: &mut [u64], floats: &mut [f64], s: Settings)
         u64::from(s.slots_given),
     ];
     numbers::put_run(told, 0, 0, &values);
-    put_float(floats, 0, s.loss_rate);
-    put_float(floats, 1, s.abort_probability);
+    numbers::put(floats, 0, s.loss_rate);
+    numbers::put(floats, 1, s.abort_probability);
 }
 
 #[tactic(auto, unfolding(crate::specs::Answers::said))]
@@ -193,7 +184,7 @@ pub fn tell_ratio(told: &mut [u64], floats: &mut [f64], x: Option<f64>)
         None => tell_number(told, Ok(0)),
         Some(y) => {
             tell_number(told, Ok(1));
-            put_float(floats, 0, y);
+            numbers::put(floats, 0, y);
         }
     }
 }

@@ -20,13 +20,13 @@
 //     numbers each; 12185 in all
 // A place past the end of a list reads as 0, and nothing is put there. Loss and abort probability go over as floats,
 // because a NaN has no number here.
-ghost use Rattle.std.specs.Prelude.{◌≡◌, ◌<◌, ◌≤◌, ◌^◌};
+ghost use Rattle.std.specs.Prelude.{◌≡◌, [], ◌∷◌, ◌<◌, ◌≤◌, ◌^◌};
 ghost use Rattle.std.proofs.lemmas.List.Edits.{sets};
-ghost use Rattle.graph.specs.Links.{no_graph};
+ghost use Rattle.limits.specs.Refusals.{answer_of};
 ghost use Rattle.demand.specs.Calls.{Propose, handed};
 ghost use Rattle.room_c.specs.Answers.{told_in};
 ghost use Rattle.room_c.specs.Console.{kind_numbered, settings_by, asked_by, opening_by, whole_said, part_said};
-ghost use Rattle.room_c.specs.Console.{round_said, call_said, call_of, turn, play};
+ghost use Rattle.room_c.specs.Console.{call_said, call_of, turn, play};
 ghost use Rattle.room_c.specs.Console.{played_by, term_numbers, put_room, run_from};
 
 use super::answers;
@@ -34,10 +34,11 @@ use engines::settings::Settings;
 use engines_c::{numbers, payloads};
 use graph::network::NetworkGraph;
 use limits::refusals;
+use limits::refusals::Refusal;
 use pipeline_c::console as pipes;
 use pipeline_c::rounds::Played;
 use readings::readings as reading;
-use room::room::{Asked, Opening, Room, RoomKind, RoundAnswer};
+use room::room::{Asked, Room, RoomKind};
 
 // The places of a call in the two lists.
 const NUMBERS: usize = 40;
@@ -89,54 +90,37 @@ fn asked_by(xs: &[u64], loss_rate: f64, abort_probability: f64, graph: NetworkGr
     }
 }
 
-fn no_graph() -> NetworkGraph
-    ensures { result ≡ no_graph }
-{
-    NetworkGraph {
-        n: 0,
-        adj: [0u64; limits::POSITIONS],
-    }
-}
-
-// The refusal of the rows, or else of the opening. Rows that are refused make a graph of no positions, and so the room
-// has none either.
+// The refusal of the rows, or else of the opening with the graph that they make.
 #[tactic(auto, unfolding(crate::specs::Console::opening_by))]
-fn open_by(xs: &[u64], loss_rate: f64, abort_probability: f64, links: &[u64]) -> Opening
+fn open_by(
+    xs: &[u64],
+    loss_rate: f64,
+    abort_probability: f64,
+    links: &[u64],
+) -> Result<Room, Refusal>
     ensures { result ≡ opening_by xs.now loss_rate abort_probability links.now }
 {
-    let rows = NetworkGraph::from_rows(links);
-    let graph = rows.unwrap_or(no_graph());
-    let refusal = refusals::answer(rows);
-    let asked = asked_by(xs, loss_rate, abort_probability, graph);
-    let o = Room::open(asked);
-    if refusal == 0 {
-        return o;
-    }
-    Opening {
-        refusal,
-        room: o.room,
-    }
+    let graph = NetworkGraph::from_rows(links)?;
+    Room::open(asked_by(xs, loss_rate, abort_probability, graph))
 }
 
 // ---- the calls
 
 #[tactic(auto, unfolding(crate::specs::Console::call_said, demand::specs::Calls::handed))]
-fn propose(told: &mut [u64], r: Room, v: usize) -> Room
-    ensures value { result ≡ handed (Propose v) r }
-    ensures told_after { told.new ≡ sets told.old 0 (told_in (call_said (Propose v) r)) }
+fn propose(told: &mut [u64], r: &mut Room, v: usize)
+    ensures room_after { r.new ≡ handed (Propose v) r.old }
+    ensures told_after { told.new ≡ sets told.old 0 (told_in (call_said (Propose v) r.old)) }
 {
-    let p = r.propose(v);
-    numbers::put(told, 0, p.refusal);
-    p.room
+    let q = r.propose(v);
+    numbers::put(told, 0, refusals::answer(q));
 }
 
-fn tell_round(told: &mut [u64], a: RoundAnswer) -> Room
-    ensures value { result ≡ a.room }
-    ensures told_after { told.new ≡ sets told.old 0 (told_in (round_said a)) }
+// What a round told, and behind it the cursor and the rows used.
+fn tell_round(told: &mut [u64], q: Result<(), Refusal>, cursor: usize, used: usize)
+    ensures { told.new ≡ sets told.old 0 (answer_of q ∷ cursor ∷ used ∷ []) }
 {
-    let values = [a.refusal, a.cursor as u64, a.used as u64];
+    let values = [refusals::answer(q), cursor as u64, used as u64];
     numbers::put_run(told, 0, 0, &values);
-    a.room
 }
 
 // A reading of the whole room. The numbers are C's, and each is told where it is read: an enum of the readings would
@@ -165,7 +149,7 @@ fn read_whole(told: &mut [u64], floats: &mut [f64], which: u64, r: &Room)
     }
 }
 
-// A reading of a position or a place.
+// A reading of a position or a place, by C's number too.
 #[tactic(auto, unfolding(crate::specs::Answers::said, readings::specs::Calls::answer_of))]
 fn read_part(told: &mut [u64], text: &mut [u8], which: u64, a: usize, b: usize, r: &Room)
     requires { 18 ≤ which }
@@ -183,7 +167,8 @@ fn read_part(told: &mut [u64], text: &mut [u8], which: u64, a: usize, b: usize, 
     }
 }
 
-// One call, with the lists from its own places on; what is none tells refusal 0.
+// One call, with the lists from its own places on; what is none tells refusal 0. Its number is C's, which lends a call
+// as four numbers: an enum of the calls would be made from them in one match and taken apart in another.
 #[tactic(auto, using(crate::proofs::Making::proposed, crate::proofs::Making::none_made))]
 fn call(
     words: &[u64],
@@ -195,46 +180,39 @@ fn call(
     a: usize,
     b: usize,
     c: usize,
-    r: Room,
-) -> Room
+    r: &mut Room,
+)
     ensures { record {
-      rows = rows.exit.now;
+      rows = rows.new;
       told = told.new;
       floats = floats.new;
       text = text.new;
-      room = result;
+      room = r.new;
     } ≡
         call_of words.now 0 which a b c
         (record {
-          rows = rows.entry.now;
+          rows = rows.old;
           told = told.old;
           floats = floats.old;
           text = text.old;
-          room = r;
+          room = r.old;
         }) }
 {
+    let mut cursor = b;
+    let mut used = c;
     match which {
         1 => propose(told, r, a),
         2 => {
-            let x = r.capture_round(words, b, rows, c);
-            tell_round(told, x)
+            let q = r.capture_round(words, &mut cursor, rows, &mut used);
+            tell_round(told, q, cursor, used);
         }
         3 => {
-            let y = r.pipeline_round(words, b, rows, c);
-            tell_round(told, y)
+            let q = r.pipeline_round(words, &mut cursor, rows, &mut used);
+            tell_round(told, q, cursor, used);
         }
-        4..=17 => {
-            read_whole(told, floats, which, &r);
-            r
-        }
-        18..=23 => {
-            read_part(told, text, which, a, b, &r);
-            r
-        }
-        _ => {
-            numbers::put(told, 0, 0);
-            r
-        }
+        4..=17 => read_whole(told, floats, which, r),
+        18..=23 => read_part(told, text, which, a, b, r),
+        _ => numbers::put(told, 0, 0),
     }
 }
 
@@ -247,23 +225,23 @@ fn call_at(
     floats: &mut [f64],
     text: &mut [u8],
     i: usize,
-    r: Room,
-) -> Room
+    r: &mut Room,
+)
     requires { i < 2 ^ 58 }
     ensures { record {
-      rows = rows.exit.now;
+      rows = rows.new;
       told = told.new;
       floats = floats.new;
       text = text.new;
-      room = result;
+      room = r.new;
     } ≡
         turn words.now calls.now i
         (record {
-          rows = rows.entry.now;
+          rows = rows.old;
           told = told.old;
           floats = floats.old;
           text = text.old;
-          room = r;
+          room = r.old;
         }) }
 {
     let k = i * 4;
@@ -294,30 +272,28 @@ fn play_calls(
     told: &mut [u64],
     floats: &mut [f64],
     text: &mut [u8],
-    start: Room,
-) -> Room
+    r: &mut Room,
+)
     ensures { record {
-      rows = rows.exit.now;
+      rows = rows.new;
       told = told.new;
       floats = floats.new;
       text = text.new;
-      room = result;
+      room = r.new;
     } ≡
         play words.now calls.now
         (record {
-          rows = rows.entry.now;
+          rows = rows.old;
           told = told.old;
           floats = floats.old;
           text = text.old;
-          room = start;
+          room = r.old;
         }) }
 {
     let count = calls.len() / 4;
-    let mut r = start;
     for i in 0..count {
-        r = call_at(words, rows, calls, told, floats, text, i, r);
+        call_at(words, rows, calls, told, floats, text, i, r);
     }
-    r
 }
 
 // ---- the account
@@ -326,7 +302,6 @@ fn played_by(r: &Room) -> Played
     ensures { result ≡ played_by r.now }
 {
     Played {
-        refusal: 0,
         cursor: 0,
         used: 0,
         count: 0,
@@ -342,8 +317,8 @@ fn term_numbers(r: &Room) -> [u64; 4]
     let x = &r.capture;
     [
         x.term,
-        x.initiator as u64,
-        u64::from(x.proposed),
+        x.proposer() as u64,
+        u64::from(x.initiator.is_some()),
         u64::from(x.raised),
     ]
 }
@@ -388,11 +363,13 @@ pub extern "C" fn room_run(
         words.now calls.now rows.old told.old floats.old
         text.old out.old }
 {
-    let o = open_by(setup, loss_rate, abort_probability, links);
-    if o.refusal != 0 {
-        return o.refusal;
+    match open_by(setup, loss_rate, abort_probability, links) {
+        Ok(room) => {
+            let mut r = room;
+            play_calls(words, rows, calls, told, floats, text, &mut r);
+            put_room(out, &r);
+            0
+        }
+        Err(refusal) => refusal.into(),
     }
-    let room = play_calls(words, rows, calls, told, floats, text, o.room);
-    put_room(out, &room);
-    0
 }

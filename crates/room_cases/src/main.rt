@@ -169,9 +169,5 @@ fn answer(rt: &(impl Print + AllocGlobal), question: &[u64]) -> Result<()> {
 }
 
 fn main(rt: HostRuntime) -> Result<()> {
-    for line in rt.lines(rt.alloc()) {
-        let question = case_lines::numbers(rt.alloc(), line?.as_str())?;
-        answer(&rt, &question)?;
-    }
-    Ok(())
+    case_lines::answer_lines(&rt, |question| answer(&rt, question))
 }

@@ -1,6 +1,5 @@
 use mathlib.Core.Path.{sym, ◌∙◌}
 use Rattle.frame.specs.Listing.{outcome_of}
-use lib.Seq.{length-take-le}
 use native.Mathlib.Omega.{arith}
 use Rattle.frame.proofs.Playing.{kept, no_words, a_frame, words_left}
 use Rattle.std.proofs.lemmas.Grind.{common_steps}
@@ -15,15 +14,10 @@ read_words-requires c =
     let k = kept c.args.s.now (sym (c.in_ok-f.was) ∙ c.read_frame.ensures) in
     (k.inside, omega (arith, k.few), k.hex)
 
-pub slice_bounds-play_frame-end : goal.slice_bounds-play_frame-end
-slice_bounds-play_frame-end c =
+pub shared_ref_as_front-play_frame : goal.shared_ref_as_front-play_frame
+shared_ref_as_front-play_frame c =
     let k = kept c.args.s.now (sym (c.in_ok-f.was) ∙ c.read_frame.ensures) in
     omega (arith, k.few)
-
-pub slice_bounds-play_frame-end-2 : goal.slice_bounds-play_frame-end-2
-slice_bounds-play_frame-end-2 c =
-    let k = kept c.args.s.now (sym c.in_ok-f.was ∙ c.read_frame.ensures) in
-    sym (length-take-le c.in_ok-f.f.words c.read_words.new.words (omega (arith, k.few)))
 
 pub returns : goal.returns
 returns c =

@@ -9,7 +9,7 @@ use Rattle.frame.proofs.Playing.{captured_none, captured_more, captured_refused}
 use Rattle.frame.proofs.play.play_capture.Goals as goal
 
 pub loop-k-init : goal.loop-k-init
-loop-k-init c = rw c.new_captured-captured.ensures (captured_none c.args.words.now c.args.conf)
+loop-k-init c = rw (c.new_play-captured.ensures, c.new.ensures) (captured_none c.args.words.now c.args.conf)
 
 pub returns-in_err-capture_turn : goal.returns-in_err-capture_turn
 returns-in_err-capture_turn c =

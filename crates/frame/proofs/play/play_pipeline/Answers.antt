@@ -4,7 +4,8 @@ use Rattle.std.specs.Prelude.{Result, Ok, Err}
 use Rattle.std.proofs.lemmas.Grind.{common_steps}
 use native.Mathlib.Omega.{arith}
 use Rattle.limits.specs.declared.refusals.Refusal.{Refusal}
-use Rattle.frame.specs.Play.{left_by, unless_refused, pipeline_end, new_ran, play_pipeline}
+use Rattle.frame.specs.Play.{left_by, unless_refused, pipeline_end, new_play, play_pipeline}
+use Rattle.pipeline.specs.Round.{new_part}
 use Rattle.frame.proofs.Playing.{going, going_stop, going_out, going_on, going_refused}
 use Rattle.frame.proofs.play.play_pipeline.Goals as goal
 
@@ -13,7 +14,7 @@ all n = omega arith
 
 pub loop-k-init : goal.loop-k-init
 unfolding play_pipeline
-loop-k-init c = rw c.new_ran-ran.ensures (ap (λ (n : ℕ). going c.args.words.now c.args.conf n (Ok new_ran)) (all _))
+loop-k-init c = rw (c.new_play-ran.ensures, c.new.ensures) (ap (λ (n : ℕ). going c.args.words.now c.args.conf n (Ok (new_play new_part))) (all _))
 
 pub returns-then-ran : goal.returns-then-ran
 returns-then-ran c = ap (unless_refused pipeline_end) (going_stop c.args.words.now c.args.conf _ c.loop-k.ran c.if-ran.true c.loop-k.invariant)

@@ -5,5 +5,5 @@ pub returns : goal.returns
 returns c d =
     adopted_by _ _ _ _
     (c.ensure_bitmap_len-filled.ensures d)
-    (c.voice-slip.ensures d)
-    (c.settle-y.ensures d)
+    (c.voice.ensures d)
+    (c.settle.ensures d)

@@ -7,16 +7,16 @@ pub returns-then-not-x : goal.returns-then-not-x
 returns-then-not-x c =
     c.redundant_merge.ensures
     ∙ sym (heard_packets _ _ _ _ _ _ _ _
-    c.without_data.ensures
-    c.without_data-2.ensures
+    c.of.ensures
+    c.of-2.ensures
     c.hear-x.ensures
     ∙ rw (not-true c.hear-x.result.news c.if-not-x.true))
 
 pub returns : goal.returns
 returns c =
-    rw (c.new_info.ensures, c.with_data.ensures, c.data_of.ensures)
+    rw (c.new_info.ensures, c.with_data.ensures, c.data_of-data.ensures)
     (sym (heard_packets _ _ _ _ _ _ _ _
-    c.without_data.ensures
-    c.without_data-2.ensures
+    c.of.ensures
+    c.of-2.ensures
     c.hear-x.ensures
     ∙ rw (not-false c.hear-x.result.news c.if-not-x.false)))

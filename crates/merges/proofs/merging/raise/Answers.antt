@@ -1,15 +1,15 @@
-use Rattle.std.proofs.Common.{true, ap, ◌∙◌, le-ltb, lt-ltb, eq-eqb, ne_eqb}
 use Rattle.merges.specs.Merging.{raised_of}
+use Rattle.merges.proofs.Phases.{lower, same, not_below, equal_to, higher}
 use Rattle.merges.proofs.merging.raise.Goals as goal
 
-pub returns-then-held-heard : goal.returns-then-held-heard
+pub returns-in-Less : goal.returns-in-Less
 unfolding raised_of
-returns-then-held-heard c d = ap (λ p. record { packet = p; news = true }) (c.with_state-slip.ensures d) ∙ rw (← c.rank-held.ensures, ← c.rank-heard.ensures, lt-ltb _ _ c.if-held-heard.true)
+returns-in-Less c d = rw (lower _ _ c.in-Less.ensures)
 
-pub returns-then-held-heard-2 : goal.returns-then-held-heard-2
+pub returns-in-Equal : goal.returns-in-Equal
 unfolding raised_of
-returns-then-held-heard-2 c d = ap (λ p. record { packet = p; news = c.join_is_news-news.result }) (c.with_state-slip-then-held-heard-2.ensures d) ∙ rw (c.joined.ensures, c.join_is_news-news.ensures, ← c.rank-held.ensures, ← c.rank-heard.ensures, le-ltb _ _ c.if-held-heard.false, eq-eqb _ _ c.if-held-heard-2.true)
+returns-in-Equal c d = let e = same _ _ c.in-Equal.ensures in rw (e, not_below, equal_to, c.joined.ensures, c.join_is_news.ensures)
 
-pub returns : goal.returns
+pub returns-in-Greater : goal.returns-in-Greater
 unfolding raised_of
-returns c d = rw (← c.rank-held.ensures, ← c.rank-heard.ensures, le-ltb _ _ c.if-held-heard.false, ne_eqb _ _ c.if-held-heard-2.false)
+returns-in-Greater c d = let h = higher _ _ c.in-Greater.ensures in rw (h.0, h.1)

@@ -1,8 +1,5 @@
-use Rattle.packets.proofs.Writers.{left_all, left_room, left_end, left_put, left_last}
+use Rattle.packets.proofs.Writers.{left_all, left_end, left_put, left_last}
 use Rattle.packets.proofs.field.put_field.Goals as goal
-
-pub all-requires : goal.all-requires
-all-requires g c = left_room _ _ (left_all c.args.w.now c.requires.1)
 
 pub put-requires : goal.put-requires
 put-requires g c = (c.requires.0, left_end (left_put _ (left_all c.args.w.now c.requires.1) c.all.ensures))

@@ -31,9 +31,6 @@ pub returns-in_err-value : goal.returns-in_err-value
 unfolding bitmap_at map
 returns-in_err-value c = c.from_residual.ensures ∙ sym (c.loop-k.invariant.1 ∙ ap (map bitmap_of) (turn_bad bool_at store_mark 64 c.args.s.now c.loop-k.i c.loop-k.k c.loop-k.marks c.loop-k-test.true (sym c.read_bool.ensures ∙ c.in_err-value.was)))
 
-pub with_mark-marks-requires : goal.with_mark-marks-requires
-with_mark-marks-requires c = (omega arith, c.loop-k.invariant.0)
-
 pub overflow_add-result-then-byte_at-2-2 : goal.overflow_add-result-then-byte_at-2-2
 overflow_add-result-then-byte_at-2-2 c = omega (arith, lit_le c.args.s.now c.in_ok-value.next (93 ∷ []) (sym c.byte_at-in-loop-k.ensures ∙ c.if-byte_at-2.true) (omega arith))
 

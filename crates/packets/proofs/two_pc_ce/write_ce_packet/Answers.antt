@@ -18,12 +18,6 @@ returns-then-at-buf c =
     let both = wrote_short (ce_text c.args.p) c.args.buf.now c.args.at (ce_within c.args.p) (sym c.within.ensures ∙ c.if-not-within.false) long in
     record { value = both.0; buf_after = both.1 }
 
-pub put_ce-requires : goal.put_ce-requires
-put_ce-requires c = (
-  sym c.within.ensures ∙ c.if-not-within.false,
-  record { room = omega (arith, c.if-at-buf.false, c.if-ce_text_len-buf.false, measured (ce_within c.args.p) (ce_text c.args.p) _ (sym c.within.ensures ∙ c.if-not-within.false) c.ce_text_len.ensures) },
-)
-
 pub returns : goal.returns
 returns c =
     let lent = sym c.put_ce.ensures.same in

@@ -18,12 +18,6 @@ returns-then-at-buf c =
     let both = wrote_short (pipeline_text c.args.p) c.args.buf.now c.args.at (pipeline_within c.args.p) (sym c.within.ensures ∙ c.if-not-within.false) long in
     record { value = both.0; buf_after = both.1 }
 
-pub put_pipeline-requires : goal.put_pipeline-requires
-put_pipeline-requires c = (
-  sym c.within.ensures ∙ c.if-not-within.false,
-  record { room = omega (arith, c.if-at-buf.false, c.if-pipeline_len-buf.false, c.pipeline_len.ensures) },
-)
-
 pub returns : goal.returns
 returns c =
     let lent = sym c.put_pipeline.ensures.same in

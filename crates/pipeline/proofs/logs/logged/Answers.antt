@@ -10,5 +10,5 @@ unfolding logged_at
 loop-e-preserved c = (
   omega arith,
   upto_turn _ _ c.loop-e.invariant.1
-      (rw (← get_or-take c.at_most_64.result c.args.g.entries c.loop-e.e-index no_entry (omega arith)) (with_is _ _ _ c.loop-e.invariant.0 (omega arith) c.with_mark-m.ensures)),
+      (rw (← get_or-take c.min.result c.args.g.entries c.loop-e.e-index no_entry (omega arith)) (with_is _ _ _ c.loop-e.invariant.0 (omega arith) c.with_mark-m.ensures)),
 )

@@ -6,5 +6,5 @@ use Rattle.pipeline.proofs.logs.outcome.Goals as goal
 
 pub returns-then-e-t : goal.returns-then-e-t
 returns-then-e-t c =
-    let e = get_or-take c.at_most_64.result c.args.g.entries c.loop-e.e-index no_entry (omega arith) in
+    let e = get_or-take c.min.result c.args.g.entries c.loop-e.e-index no_entry (omega arith) in
     rw e (outcome_first c.args.g c.args.t c.loop-e.e-index (omega arith) c.loop-e.invariant (rw e at c.if-e-t.true))

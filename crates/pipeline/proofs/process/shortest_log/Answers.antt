@@ -6,4 +6,4 @@ use Rattle.pipeline.proofs.process.shortest_log.Goals as goal
 
 pub loop-s-preserved : goal.loop-s-preserved
 unfolding shorter_at
-loop-s-preserved c = upto_turn _ _ c.loop-s.invariant (rw (← get_or-take c.at_most_64.result c.args.states c.loop-s.s-index no_state (omega (arith, length-take c.at_most_64.result c.args.states))) c.min-shortest.ensures)
+loop-s-preserved c = upto_turn _ _ c.loop-s.invariant (rw (← get_or-take c.min.result c.args.states c.loop-s.s-index no_state (omega (arith, length-take c.min.result c.args.states))) c.min-shortest.ensures)

@@ -4,7 +4,7 @@ use Rattle.planner.proofs.Calls.{is_ok, left_all, came}
 use Rattle.planner.proofs.Planner.answer.Goals as goal
 
 pub unwrap-fed-requires : goal.unwrap-fed-requires
-unwrap-fed-requires c = is_ok c.args.text.now c.loop-at.from c.loop-at.at c.loop-at.invariant.0 c.loop-at.invariant.1 (omega arith) c.feed.ensures
+unwrap-fed-requires c = is_ok c.args.text.now c.loop-at.from c.loop-at.at c.loop-at.invariant.0 (omega arith) (omega arith) c.feed.ensures
 
 pub overflow_add-at : goal.overflow_add-at
 overflow_add-at c = omega (arith, came c.args.text.now c.loop-at.from c.loop-at.at c.loop-at.invariant.0 c.loop-at-test.true (omega arith) (omega arith) c.feed.ensures c.unwrap-fed.ensures)

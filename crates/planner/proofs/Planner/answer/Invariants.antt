@@ -6,7 +6,7 @@ use Rattle.planner.proofs.Calls.{left_at}
 use Rattle.planner.proofs.Planner.answer.Given as goal
 
 abbrev pub invariant-loop-at : goal.invariant-loop-at
-invariant-loop-at l = (l.from ≤ l.at) × (l.at ≤ length l.text) × (left_at l.text l.from l.at ≡ left_of (take l.n l.text) (drop l.n l.text))
+invariant-loop-at l = (l.from ≤ l.at) × (l.from ≤ length l.text) × (left_at l.text l.from l.at ≡ left_of (take l.n l.text) (drop l.n l.text))
 
 abbrev pub decreases-loop-at : goal.decreases-loop-at
 decreases-loop-at l = length l.text - l.at

@@ -7,7 +7,7 @@ pub loop-i-init : goal.loop-i-init
 loop-i-init c = (omega arith, upto_none _ _)
 
 pub loop-i-preserved : goal.loop-i-preserved
-loop-i-preserved c = (omega arith, upto_turn _ _ c.loop-i.invariant.1 c.call_at-r.ensures)
+loop-i-preserved c = (omega arith, upto_turn _ _ c.loop-i.invariant.1 c.call_at.ensures)
 
 pub returns : goal.returns
 unfolding play_first

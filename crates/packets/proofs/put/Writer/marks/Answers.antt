@@ -1,10 +1,7 @@
-use Rattle.std.proofs.Common.{◌≡◌, ◌-◌, arith}
+use Rattle.std.proofs.Common.{◌-◌, refl, sym, rules, arith}
 use Rattle.packets.proofs.Texts.{marks_none, marks_next}
-use Rattle.packets.proofs.Writers.{left_all, left_as, left_room, left_byte, left_end, left_put, left_last}
+use Rattle.packets.proofs.Writers.{left_as, left_room, left_byte, left_end, left_put, left_last}
 use Rattle.packets.proofs.put.Writer.marks.Goals as goal
-
-pub loop-done-init : goal.loop-done-init
-loop-done-init c = let k : c.args.n - 0 ≡ c.args.n = omega arith in rw k (left_all c.args.self.now c.requires)
 
 pub byte-requires : goal.byte-requires
 byte-requires c = left_byte _ _ (left_as (marks_next c.loop-done.rest c.args.n c.loop-done.done (omega arith)) c.loop-done.invariant)
@@ -22,4 +19,7 @@ pub byte-requires-2 : goal.byte-requires-2
 byte-requires-2 c = omega (arith, (left_end (left_as (marks_none c.loop-done.rest (c.args.n - c.loop-done.done) (omega arith)) c.loop-done.invariant)).room)
 
 pub returns : goal.returns
-returns c = left_last (left_as (marks_none c.loop-done.rest (c.args.n - c.loop-done.done) (omega arith)) c.loop-done.invariant) c.byte-2.ensures
+returns c =
+    let all = left_last (left_as (marks_none c.loop-done.rest (c.args.n - c.loop-done.done) (omega arith)) c.loop-done.invariant) c.byte-2.ensures in
+    let same = sym all.same in
+    record { put = search (rules, all.put); same = refl }

@@ -1,10 +1,7 @@
-use Rattle.std.proofs.Common.{arith}
+use Rattle.std.proofs.Common.{refl, sym, rules, arith}
 use Rattle.packets.proofs.Texts.{rest_none, rest_more}
-use Rattle.packets.proofs.Writers.{left_all, left_as, left_room, left_byte, left_end, left_put, left_last}
+use Rattle.packets.proofs.Writers.{left_as, left_room, left_byte, left_end, left_put, left_last}
 use Rattle.packets.proofs.put.Writer.rest.Goals as goal
-
-pub loop-b-init : goal.loop-b-init
-loop-b-init c = (left_all c.args.self.now c.requires, omega arith)
 
 pub byte-requires : goal.byte-requires
 byte-requires c = left_byte _ _ (left_as (rest_more c.args.bytes.now c.loop-b.b-index c.loop-b-test.true) c.loop-b.invariant.0)
@@ -21,4 +18,7 @@ pub byte-requires-2 : goal.byte-requires-2
 byte-requires-2 c = omega (arith, (left_end (left_as (rest_none c.args.bytes.now c.loop-b.b-index c.loop-b-test.false) c.loop-b.invariant.0)).room)
 
 pub returns : goal.returns
-returns c = left_last (left_as (rest_none c.args.bytes.now c.loop-b.b-index c.loop-b-test.false) c.loop-b.invariant.0) c.byte-2.ensures
+returns c =
+    let all = left_last (left_as (rest_none c.args.bytes.now c.loop-b.b-index c.loop-b-test.false) c.loop-b.invariant.0) c.byte-2.ensures in
+    let same = sym all.same in
+    record { put = search (rules, all.put); same = refl }

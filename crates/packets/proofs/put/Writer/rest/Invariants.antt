@@ -6,4 +6,4 @@ use Rattle.packets.proofs.put.Writer.rest.Given as goal
 
 abbrev pub invariant-loop-b : goal.invariant-loop-b
 invariant-loop-b l =
-    Left l.initial.self (items_text decimal l.bytes) l.self (items_text decimal (drop l.b-index l.bytes)) × (l.b-index ≤ length l.bytes)
+    Left l.initial.w (items_text decimal l.bytes) l.w (items_text decimal (drop l.b-index l.bytes)) × (l.b-index ≤ length l.bytes)

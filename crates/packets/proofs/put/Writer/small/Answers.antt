@@ -1,4 +1,4 @@
-use Rattle.std.proofs.Common.{sym, arith}
+use Rattle.std.proofs.Common.{◌≡◌, ℕ, ◌+◌, ◌%◌, [], ◌∷◌, ap, sym, ◌∙◌, arith}
 use Rattle.texts.specs.Decimal.{decimal_small, decimal_two, decimal_three}
 use Rattle.texts.specs.Put.{room_as}
 use Rattle.packets.proofs.Writers.{wrote_as, left_all, left_byte, left_end, left_put, left_last}
@@ -8,7 +8,9 @@ pub byte-requires : goal.byte-requires
 byte-requires c = omega (arith, (room_as (decimal_small c.args.b c.if-b-lt10.true) c.requires).room)
 
 pub returns-then-b-lt10 : goal.returns-then-b-lt10
-returns-then-b-lt10 c = wrote_as (sym (decimal_small c.args.b c.if-b-lt10.true)) c.byte.ensures
+returns-then-b-lt10 c =
+    let e : c.args.b % 10 ≡ c.args.b = omega arith in
+    wrote_as (sym (decimal_small c.args.b c.if-b-lt10.true ∙ ap (λ (x : ℕ). (x + 48) ∷ []) e)) c.byte.ensures
 
 pub byte-requires-then-b-lt100 : goal.byte-requires-then-b-lt100
 byte-requires-then-b-lt100 c = left_byte _ _ (left_all c.args.self.now (room_as (decimal_two c.args.b c.if-b-lt10.false c.if-b-lt100.true) c.requires))

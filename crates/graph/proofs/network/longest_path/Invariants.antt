@@ -1,8 +1,0 @@
-use mathlib.Core.Path.{◌≡◌}
-use Prim.Native.Nat.{◌≤◌, max}
-use Rattle.loops.specs.Upto.{upto}
-use Rattle.graph.specs.Paths.{farthest}
-use Rattle.graph.proofs.network.longest_path.Given as goal
-
-abbrev pub invariant-loop-i : goal.invariant-loop-i
-invariant-loop-i l = (l.i ≤ l.n) × (l.d ≡ upto l.i (λ j e. max e (farthest (record { n = l.n; adj = l.adj }) j l.n)) 0)

@@ -1,7 +1,0 @@
-use mathlib.Core.Path.{◌≡◌}
-use Prim.Native.Nat.{◌≤◌}
-use Rattle.graph.specs.Waves.{wave_of}
-use Rattle.graph.proofs.network.wave_from.Given as goal
-
-abbrev pub invariant-loop-k : goal.invariant-loop-k
-invariant-loop-k l = (l.k ≤ l.steps) × (l.w ≡ wave_of (record { n = l.n; adj = l.adj }) l.start l.k)
