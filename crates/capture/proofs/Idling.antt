@@ -14,10 +14,9 @@ use Rattle.marks.specs.Marks.{has, count_of}
 use Rattle.marks.specs.Laws.{has_none}
 use Rattle.marks.specs.Sets.{has_marks, and_true}
 use Rattle.merges.specs.Votes.{no_of}
-use Rattle.merges.specs.Merging.{merge_of, redundant, no_payload, can_sleep_of}
+use Rattle.merges.specs.Merging.{Merged, merge_of, redundant, no_payload, can_sleep_of}
 use Rattle.merges.specs.declared.votes.Voting.{Voting}
 use Rattle.merges.specs.declared.merging.Payload.{Payload}
-use Rattle.merges.specs.declared.merging.Merged.{Merged}
 use Rattle.engines.specs.Clamp.{at_most64}
 use Rattle.engines.specs.Words.{shuffled}
 use Rattle.engines.specs.Nodes.{no_node, is_listen, is_flood, listens, floods, sets_of, ticked, ticked_all}

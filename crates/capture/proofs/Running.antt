@@ -21,8 +21,8 @@ use Rattle.capture.specs.Idle.{Idle, idled}
 use Rattle.capture.specs.Boards.{node_by, seen_by, Shown, passed_cells, row_by, Advanced, Ran}
 use Rattle.capture.specs.declared.board.Board.{Board}
 use Rattle.capture.specs.declared.capture.CeState.{CeState}
-use Rattle.capture.specs.declared.capture.CeStep.{CeStep}
-use Rattle.capture.specs.declared.capture.CeRun.{CeRun}
+use Rattle.engines.specs.declared.network.Step.{Step}
+use Rattle.engines.specs.declared.network.Survey.{Survey}
 use Rattle.capture.proofs.Idling.{stepped_idle}
 use Rattle.capture.proofs.Shortage.{short_stays}
 use Rattle.capture.proofs.Acting.{later, slot_idled}
@@ -31,12 +31,12 @@ use Rattle.capture.proofs.Resting.{nodes_long, node_at, sets_shown, ended_is, sh
 -- ---- a step
 
 pub advanced_idle : (ws : List ℕ) (conf : RoundConf) (base : CeState) {b : Board} {x : List ℕ} (c : CeState) (left k : ℕ) → 0 < k → k ≤ left → Idle conf k c → Shown conf.graph.n base b x c
-    → Advanced ws conf base left c (record { board = later b k; left = left - k }) (passed_cells b.states k x)
+    → Advanced ws conf base left c (record { run = later b k; left = left - k }) (passed_cells b.states k x)
 advanced_idle ws conf base c left k h l i o =
     record { state = idled conf k c; shown = slot_idled conf base c k o; stepped = stepped_idle ws conf h l i refl }
 
 pub advanced_slot : (ws : List ℕ) (conf : RoundConf) (base : CeState) {b r : Board} {x y : List ℕ} (c : CeState) (left : ℕ) → 0 < left → b.ended ≡ false → Shown conf.graph.n base b x c
-    → Shown conf.graph.n base r y (slot_of ws conf c) → Advanced ws conf base left c (record { board = r; left = left - 1 }) y
+    → Shown conf.graph.n base r y (slot_of ws conf c) → Advanced ws conf base left c (record { run = r; left = left - 1 }) y
 advanced_slot ws conf base c left h e o q =
     record { state = slot_of ws conf c; shown = q; stepped = stepped_slot network_in over (slot_of ws conf) conf h (ended_is o ∙ e) refl }
 
@@ -53,11 +53,11 @@ module _ (ws : List ℕ) (conf : RoundConf) (base c : CeState) where
   going_first o = record { state = c; shown = o; counted = record { run = refl; rows = omega arith; small = omega arith } }
 
   module _ {left : ℕ} {b : Board} {x : List ℕ} {due : ℕ} (o : Going ws conf base c left b x due) where
-    pub going_stop : 0 < left → b.ended ≡ true → Ran ws conf base c (record { board = b; due = due }) x
+    pub going_stop : 0 < left → b.ended ≡ true → Ran ws conf base c (record { run = b; due = due }) x
     going_stop h e =
         record { state = o.state; shown = o.shown; surveyed = counted_stop network_in over (slot_of ws conf) conf draw_in conf.length c o.counted h (ended_is o.shown ∙ e) }
 
-    pub going_short : b.draw.short ≡ true → Ran ws conf base c (record { board = b; due = due }) x
+    pub going_short : b.draw.short ≡ true → Ran ws conf base c (record { run = b; due = due }) x
     going_short e =
         record {
           state = o.state;
@@ -65,12 +65,12 @@ module _ (ws : List ℕ) (conf : RoundConf) (base c : CeState) where
           surveyed = counted_short network_in over (slot_of ws conf) conf draw_in conf.length c o.counted (short_stays ws conf) (short_is o.shown ∙ e);
         }
 
-    pub going_none : left ≤ 0 → Ran ws conf base c (record { board = b; due = due }) x
+    pub going_none : left ≤ 0 → Ran ws conf base c (record { run = b; due = due }) x
     going_none h =
         record { state = o.state; shown = o.shown; surveyed = counted_none network_in over (slot_of ws conf) conf draw_in conf.length c o.counted h }
 
-    pub going_turn : conf.length < 2 ^ 64 → 0 < left → {due' : ℕ} → due' ≡ due_after due b.next_row b.slot → {r : CeStep} {y : List ℕ}
-        → ((s : CeState) → Shown conf.graph.n base b x s → Advanced ws conf base left s r y) → Going ws conf base c r.left r.board y due'
+    pub going_turn : conf.length < 2 ^ 64 → 0 < left → {due' : ℕ} → due' ≡ due_after due b.next_row b.slot → {r : Step Board} {y : List ℕ}
+        → ((s : CeState) → Shown conf.graph.n base b x s → Advanced ws conf base left s r y) → Going ws conf base c r.left r.run y due'
     going_turn small h e step =
         let a = step o.state o.shown in
         record {
@@ -80,7 +80,7 @@ module _ (ws : List ℕ) (conf : RoundConf) (base c : CeState) where
         }
 
 -- what a run found out, of the state that is packed
-pub surveyed_as : (ws : List ℕ) (conf : RoundConf) (base c : CeState) {r : CeRun} {y : List ℕ} {s : CeState} → Ran ws conf base c r y → s ≡ seen_by conf.graph.n base r.board y
+pub surveyed_as : (ws : List ℕ) (conf : RoundConf) (base c : CeState) {r : Survey Board} {y : List ℕ} {s : CeState} → Ran ws conf base c r y → s ≡ seen_by conf.graph.n base r.run y
     → Surveyed network_in over (slot_of ws conf) conf draw_in conf.length c s r.due
 surveyed_as ws conf base c o e = rw (e ∙ o.shown.sees) o.surveyed
 
@@ -138,8 +138,8 @@ module _ (ws : List ℕ) (conf : RoundConf) (base : CeState) where
     writing_none h = rounds.left_none network_in over (slot_of ws conf) conf o.still h
 
     pub writing_turn : (top : ℕ) → highest_progress conf.graph.n base.network.nodes ≡ top → {row : Row} → row ≡ row_by b top → {rows' : List ℕ} {at' : ℕ}
-        → at' ≡ written_end (length rows) at (due_row b.slot row) → rows' ≡ written_at rows at (due_row b.slot row) → {r : CeStep} {y : List ℕ}
-        → ((s : CeState) → Shown conf.graph.n base b x s → Advanced ws conf base left s r y) → Writing ws conf base final r.left r.board y at' rows'
+        → at' ≡ written_end (length rows) at (due_row b.slot row) → rows' ≡ written_at rows at (due_row b.slot row) → {r : Step Board} {y : List ℕ}
+        → ((s : CeState) → Shown conf.graph.n base b x s → Advanced ws conf base left s r y) → Writing ws conf base final r.left r.run y at' rows'
     writing_turn top e er ea eb step =
         let a = step o.state o.shown in
         record { state = a.state; shown = a.shown; still = rounds.left_turn network_in over (slot_of ws conf) conf o.still (put top e er ea eb) a.stepped }

@@ -1,5 +1,5 @@
 -- Each way out of a capture round, told from what its tests found. Assumes nothing.
-use Rattle.std.proofs.Common.{◌≡◌, ℕ, ◌+◌, ◌*◌, ◌≤◌, Bool, false, List, length, Ok, Err, refl, sym, ap, ◌∙◌, arith}
+use Rattle.std.proofs.Common.{◌≡◌, ℕ, ◌+◌, ◌*◌, ◌≤◌, false, List, length, Ok, Err, refl, sym, ◌∙◌, arith}
 use lib.Seq.{sets}
 use Rattle.std.specs.Result.{is_ok}
 use Rattle.limits.proofs.Tests.{no_err}

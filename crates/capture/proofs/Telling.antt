@@ -1,5 +1,5 @@
 -- Merges in place are the merges of the rule, since no position that is heard hears anybody. Assumes nothing.
-use Rattle.std.proofs.Common.{◌≡◌, ℕ, zero, suc, ◌<◌, ◌≤◌, Bool, true, false, not, ◌&&◌, ◌||◌, eqb, ltb, ◌⊎◌, List, [], ◌∷◌, length, get_or, set, sym, refl, ap, ◌∙◌, inl, inr, true≢false, arith, get_or-set_other, ext_get_or, ltb-false, ltb-true, le-ltb, lt-ltb, eqb-true}
+use Rattle.std.proofs.Common.{◌≡◌, ℕ, Option, Some, zero, suc, ◌<◌, ◌≤◌, Bool, true, false, not, ◌&&◌, ◌||◌, eqb, ltb, ◌⊎◌, List, [], ◌∷◌, length, get_or, set, sym, refl, ap, ◌∙◌, inl, inr, true≢false, arith, get_or-set_other, ext_get_or, ltb-false, ltb-true, le-ltb, lt-ltb, eqb-true}
 use lib.Seq.{set-get_or}
 use borrow.Author.Tests.{eqb-false}
 use Rattle.loops.specs.Pick.{either}
@@ -7,15 +7,13 @@ use Rattle.loops.specs.Upto.{upto, upto_same}
 use Rattle.marks.specs.Marks.{has}
 use Rattle.marks.specs.Sets.{and_true, has_marks, grown_none}
 use Rattle.merges.specs.Votes.{no_of}
-use Rattle.merges.specs.Merging.{no_payload, merge_of, merged_by, new_info, redundant, goal_of, can_sleep_of}
-use Rattle.merges.specs.Slips.{packet_of, HeardBy}
+use Rattle.merges.specs.Merging.{Merged, no_payload, merge_of, merged_by, new_info, redundant, goal_of, can_sleep_of}
+use Rattle.merges.specs.Slips.{packet_of, answered, HeardBy}
 use Rattle.merges.specs.declared.votes.Voting.{Voting}
-use Rattle.merges.specs.declared.merging.Draft.{Draft}
 use Rattle.merges.specs.declared.merging.Slip.{Slip}
 use Rattle.merges.specs.declared.merging.Held.{Held}
 use Rattle.merges.specs.declared.merging.Held.TheVariants.{Empty, Unreadable, Packet}
 use Rattle.merges.specs.declared.merging.Payload.{Payload}
-use Rattle.merges.specs.declared.merging.Merged.{Merged}
 use Rattle.merges.proofs.Sources.{heard_source}
 use Rattle.engines.specs.Clamp.{at_most64}
 use Rattle.engines.specs.Marked.{over_marks, with_mark, place}
@@ -61,13 +59,13 @@ module _ (s : Voting) {base : List Payload} {p : Phases} {rests : ℕ} {x : List
       by Packet e = absurd (true≢false (sym (ap packet e) ∙ none_at o src k q))
 
   -- what is heard is a packet: the merge on slips tells it
-  module _ (h : i < at_most64 s.n) (q : holds_by p src ≡ true) (m : Draft) (w : HeardBy (no_of s) s.n i (held_by p i) (slip_by p x i) (slip_by p x src) m) where
+  module _ (h : i < at_most64 s.n) (q : holds_by p src ≡ true) (m : Option Slip) (w : HeardBy (no_of s) s.n i (held_by p i) (slip_by p x i) (slip_by p x src) m) where
     held_there : (t u : Bool) → either t Packet (either u Unreadable Empty) ≡ Packet → t ≡ true
     held_there true u e = refl
     held_there false true e = absurd (true≢false (sym (ap packet e)))
     held_there false false e = absurd (true≢false (sym (ap packet e)))
 
-    pub packet_heard : merged_from s held i src ≡ either m.news (new_info (packet_of (data_in base) m.slip)) (redundant (get_or held i no_payload))
+    pub packet_heard : merged_from s held i src ≡ answered (data_in base) (get_or held i no_payload) m
     unfolding merge_of merged_by held_by
     packet_heard =
         rw (lt-ltb src 64 (omega arith), packet_at o src k q, kind_at o i h)
@@ -75,16 +73,16 @@ module _ (s : Voting) {base : List Payload} {p : Phases} {rests : ℕ} {x : List
         (λ e. ap (λ (v : Payload). v.packet) (packet_at o i h (held_there (holds_by p i) (has p.unreadable i) e))))
 
     -- whose data the answer has
-    pub source_in : m.slip.source < at_most64 s.n
+    pub source_in : (u : Slip) → m ≡ Some u → u.source < at_most64 s.n
     unfolding slip_by
-    source_in = by (heard_source (no_of s) s.n i (held_by p i) (slip_by p x i) (slip_by p x src) m w)
+    source_in u z = by (heard_source (no_of s) s.n i (held_by p i) (slip_by p x i) (slip_by p x src) u (rw (← z) w))
       where
-        by : (m.slip.source ≡ cell x from_at i) ⊎ (m.slip.source ≡ cell x from_at src) → m.slip.source < at_most64 s.n
+        by : (u.source ≡ cell x from_at i) ⊎ (u.source ≡ cell x from_at src) → u.source < at_most64 s.n
         by (inl e) = rw e (o.from i h)
         by (inr e) = rw e (o.from src k)
 
 -- what was asked of the merge, by another name
-pub heard_as : (s : Voting) (i : ℕ) (m : Draft) {k k' : Held} {a a' b b' : Slip} → k ≡ k' → a ≡ a' → b ≡ b' → HeardBy (no_of s) s.n i k a b m → HeardBy (no_of s) s.n i k' a' b' m
+pub heard_as : (s : Voting) (i : ℕ) (m : Option Slip) {k k' : Held} {a a' b b' : Slip} → k ≡ k' → a ≡ a' → b ≡ b' → HeardBy (no_of s) s.n i k a b m → HeardBy (no_of s) s.n i k' a' b' m
 heard_as s i m e f g h = rw (← e, ← f, ← g) h
 
 -- something new: it is written

@@ -5,7 +5,7 @@ use Rattle.limits.specs.Limits.{positions}
 use Rattle.loops.specs.Pick.{either}
 use Rattle.loops.specs.Upto.{upto}
 use Rattle.loops.specs.Wrap.{add64}
-use Rattle.marks.specs.Marks.{has, count_of, all_of}
+use Rattle.marks.specs.Marks.{has, all_of}
 use Rattle.packets.specs.Writing.{data_len, parts_len}
 use Rattle.packets.specs.declared.Data.{Data}
 use Rattle.packets.specs.declared.TwoPcPhase.{TwoPcPhase}
@@ -22,7 +22,7 @@ use Rattle.engines.specs.Marked.{over_marks, with_mark, place}
 use Rattle.engines.specs.Columns.{cell, raised_by, stored_as, row_put}
 use Rattle.engines.specs.Nodes.{inc, no_node, is_listen, is_flood, is_sleep}
 use Rattle.engines.specs.Network.{on_air}
-use Rattle.engines.specs.Rows.{next_row}
+use Rattle.engines.specs.Rows.{next_row, row_in}
 use Rattle.engines.specs.Rounds.{Stepped, Surveyed}
 use Rattle.engines.specs.declared.words.Draw.{Draw}
 use Rattle.engines.specs.declared.rows.Row.{Row}
@@ -43,8 +43,8 @@ use Rattle.capture.specs.declared.board.Board.{Board}
 use Rattle.capture.specs.declared.board.CeFixed.{CeFixed}
 use Rattle.capture.specs.declared.board.Noted.{Noted}
 use Rattle.capture.specs.declared.capture.CeState.{CeState}
-use Rattle.capture.specs.declared.capture.CeStep.{CeStep}
-use Rattle.capture.specs.declared.capture.CeRun.{CeRun}
+use Rattle.engines.specs.declared.network.Step.{Step}
+use Rattle.engines.specs.declared.network.Survey.{Survey}
 
 -- ---- the columns of the table, by where they start
 
@@ -413,24 +413,17 @@ ended_by interval b =
 
 -- the row of a slot
 abbrev pub row_by : Board → ℕ → Row
-row_by b top =
-    record {
-      slot = b.next_row;
-      progress = top;
-      listening = count_of b.states.listening 64;
-      flooding = count_of b.states.flooding 64;
-      sleeping = count_of b.states.sleeping 64;
-    }
+row_by b top = row_in b.next_row top b.states
 
 -- a step from c, with so many slots left: what is shown then, and that it is a step of the rules
 pub record Advanced (ws : List ℕ) (conf : RoundConf) (base : CeState) (left : ℕ) (c : CeState)
-    (r : CeStep) (y : List ℕ) : Type 0 where
+    (r : Step Board) (y : List ℕ) : Type 0 where
   pub state : CeState
-  pub shown : Shown conf.graph.n base r.board y state
+  pub shown : Shown conf.graph.n base r.run y state
   pub stepped : Stepped network_in over (slot_of ws conf) conf left c r.left state
 
 -- a run from c without rows: what is shown at its end, and what it found out
-pub record Ran (ws : List ℕ) (conf : RoundConf) (base c : CeState) (r : CeRun) (y : List ℕ) : Type 0 where
+pub record Ran (ws : List ℕ) (conf : RoundConf) (base c : CeState) (r : Survey Board) (y : List ℕ) : Type 0 where
   pub state : CeState
-  pub shown : Shown conf.graph.n base r.board y state
+  pub shown : Shown conf.graph.n base r.run y state
   pub surveyed : Surveyed network_in over (slot_of ws conf) conf draw_in conf.length c state r.due

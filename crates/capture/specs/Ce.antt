@@ -7,15 +7,12 @@ use Rattle.loops.specs.Wrap.{add64}
 use Rattle.packets.specs.Packets.{ce_text, ce_within}
 use Rattle.packets.specs.Writing.{text_len}
 use Rattle.merges.specs.Votes.{no_of}
-use Rattle.merges.specs.Merging.{merge_of, redundant, no_payload, goal_of, can_sleep_of}
+use Rattle.merges.specs.Merging.{MergeResult, Redundant, NewInfo, Merged, merge_of, redundant, no_payload, goal_of, can_sleep_of}
 use Rattle.packets.specs.declared.CeTwoPcPacket.{CeTwoPcPacket}
 use Rattle.merges.specs.declared.votes.Voting.{Voting}
 use Rattle.merges.specs.declared.merging.Held.{Held}
 use Rattle.merges.specs.declared.merging.Held.TheVariants.{Empty, Unreadable, Packet}
 use Rattle.merges.specs.declared.merging.Payload.{Payload}
-use Rattle.merges.specs.declared.merging.Merged.{Merged}
-use Rattle.merges.specs.declared.merging.MergeResult.{MergeResult}
-use Rattle.merges.specs.declared.merging.MergeResult.TheVariants.{Redundant, NewInfo}
 use Rattle.engines.specs.Clamp.{at_most64}
 use Rattle.engines.specs.Marked.{with_mark, over_marks}
 use Rattle.engines.specs.Network.{on_air}

@@ -1,5 +1,7 @@
 // RULES none. A capture round inside: sets of positions, a mark each, and a lent table of numbers, a column of 64 for
-// each thing that is kept of a position. So a slot copies neither positions nor payloads.
+// each thing that is kept of a position. So a slot copies neither positions nor payloads. One table, and no struct of
+// nine lists nor 64 structs: `engines::columns` changes any column by its start, at the marks of a set, and a contract
+// says in one equation what becomes of the whole table.
 // specs/Boards.antt tells which state of the rules board and table show. A position is a plain number, since it comes
 // from marks and counts: each function asks that it be below 64, where a type for it would ask so at each making.
 ghost use Rattle.std.specs.Prelude.{◌≡◌, ℕ, ◌<◌, ◌≤◌, true, false, List, length, ◌==◌};
@@ -24,7 +26,7 @@ use graph::sets;
 use merges::merging;
 use merges::merging::{Held, Payload, Slip};
 use merges::votes::Voting;
-use packets::{Bitmap, CeTwoPcPacket, Data, TwoPcPhase, len};
+use packets::{Bitmap, Data, TwoPcPhase, len};
 
 // Where the columns start: last progress, the three counts, the parts of what is held, and the length of the data's
 // text of what was held when the round began.
@@ -154,7 +156,8 @@ pub(crate) fn slip_at(p: Phases, table: &[u64; 576], i: usize) -> Slip
 
 // ---- one position, written
 
-// m, with or without mark i.
+// m, with or without mark i. (`mark_or_not` in pipeline src/pending.rt reads alike, but promises an equation on words,
+// where this tells the marks: the two share three lines of code and no contract.)
 pub(crate) fn put(m: u64, i: usize, yes: bool) -> u64
     requires { i < 64 }
     ensures { (j : ℕ) → has result j ≡ either (j == i) yes (has m j) }
@@ -359,12 +362,7 @@ fn payload_by(p: Phases, table: &[u64; 576], i: usize, proposal_data: Data, v: P
     let s = slip_at(p, table, i);
     Payload {
         held: Held::Packet,
-        packet: CeTwoPcPacket {
-            term: s.term,
-            phase: s.phase,
-            proposal_data,
-            flags_bitmap: s.flags_bitmap,
-        },
+        packet: s.with_data(proposal_data),
     }
 }
 

@@ -98,11 +98,10 @@ fn tell(voting: Voting, t: Told, i: usize, src: usize, table: &mut [u64; 576]) -
     let held = board::held_by(p, i);
     let local = board::slip_at(p, table, i);
     let received = board::slip_at(p, table, src);
-    let m = merging::hear(voting, held, local, received, i);
-    if !m.news {
+    let Some(news) = merging::hear(voting, held, local, received, i) else {
         return t;
-    }
-    write(voting.n, t, i, m.slip, table)
+    };
+    write(voting.n, t, i, news, table)
 }
 
 // Each target merges what it heard. No target is heard, so all of it is as it was held at the slot's start.

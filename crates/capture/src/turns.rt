@@ -45,15 +45,13 @@ fn goals(before: u64, new_info: u64, p: Phases) -> u64
 }
 
 // What the plan of a slot counted, added to the room's counts.
-#[tactic(auto, unfolding(crate::specs::Turns::counted_slot))]
+#[tactic(auto, unfolding(crate::specs::Turns::counted_slot, engines::specs::Metrics::with_frames))]
 fn count_slot(m: MetricsCollector, p: SlotPlan) -> MetricsCollector
     ensures { (hears : List ℕ) → result ≡ counted_slot (plan_by p hears) m }
 {
     MetricsCollector {
         ce_timeouts: m.ce_timeouts.wrapping_add(p.ce_timeouts),
-        rx_attempts: m.rx_attempts.wrapping_add(p.rx_attempts),
-        rx_success: m.rx_success.wrapping_add(p.rx_success),
-        ..m
+        ..m.count_frames(p.rx_attempts, p.rx_success)
     }
 }
 

@@ -1,5 +1,5 @@
-// RULES none. What the test programs have in common: the lines that ask, the numbers of a line, the words of a room, one
-// number for many.
+// RULES none. What the test programs have in common: the lines that ask, the numbers of a line, the words of a room,
+// one number for many.
 #![tactic(auto)]
 
 ghost use Rattle.std.specs.Prelude.{◌≡◌, ◌+◌, ◌*◌, ◌%◌, ◌^◌, List, ℕ, map, Ok, IfOk, OnOk};

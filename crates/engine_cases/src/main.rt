@@ -12,7 +12,7 @@
 #![tactic(auto)]
 
 use anyhow::{Context, Result, bail};
-use engines_c::{console, payloads};
+use engines_c::{console, numbers, payloads};
 use graph::network::NetworkGraph;
 use merges::merging;
 use merges::merging::{Held, Payload};
@@ -100,12 +100,6 @@ impl Room {
         payloads::put_held(&mut self.state, HELD, held);
     }
 
-    fn put(&mut self, place: usize, number: u64) {
-        if let Some(x) = self.state.get_mut(place) {
-            *x = number;
-        }
-    }
-
     // The refusal's number, as the entry for C tells it: it is printed beside the state, whether it is 0 or not.
     fn round(&mut self, rows: &mut [u64], initiator: usize, slots: u64) -> u64 {
         console::ce_round(
@@ -165,7 +159,7 @@ fn answer(
     let room = opened.as_mut().context("no room is open")?;
     match question {
         [2, term, initiator] => room.propose(*term, *initiator as usize),
-        [3, place, number] => room.put(*place as usize, *number),
+        [3, place, number] => numbers::put(&mut room.state, *place as usize, *number),
         [4, initiator, slots, numbers] => play(rt, room, *initiator, *slots, *numbers)?,
         _ => bail!("no question: {question:?}"),
     }

@@ -8,21 +8,26 @@ use Rattle.marks.specs.Marks.{count_of}
 use Rattle.engines.specs.Clamp.{at_most64}
 use Rattle.engines.specs.Nodes.{inc, no_node, sets_of}
 use Rattle.engines.specs.declared.node.Node.{Node}
+use Rattle.engines.specs.declared.node.StateSets.{StateSets}
 use Rattle.engines.specs.declared.rows.Row.{Row}
 
 unfoldable pub highest_progress : ℕ → List Node → ℕ
 highest_progress n l = highest (at_most64 n) (λ i. (slice_index_or l i no_node).progress_count)
 
--- A row: the slot, the highest progress, and how many positions listen, flood and sleep.
-unfoldable pub row_of : ℕ → ℕ → List Node → Row
-row_of slot n l =
+-- A row: the slot, the highest progress, and how many of these positions listen, flood and sleep.
+abbrev pub row_in : ℕ → ℕ → StateSets → Row
+row_in slot progress s =
     record {
       slot = slot;
-      progress = highest_progress n l;
-      listening = count_of (sets_of n l).listening 64;
-      flooding = count_of (sets_of n l).flooding 64;
-      sleeping = count_of (sets_of n l).sleeping 64;
+      progress = progress;
+      listening = count_of s.listening 64;
+      flooding = count_of s.flooding 64;
+      sleeping = count_of s.sleeping 64;
     }
+
+-- .. of the first n positions
+unfoldable pub row_of : ℕ → ℕ → List Node → Row
+row_of slot n l = row_in slot (highest_progress n l) (sets_of n l)
 
 -- A row is due once the slot has reached the next row slot, which is then higher by the interval.
 unfoldable pub is_due : ℕ → ℕ → Bool

@@ -29,6 +29,20 @@ pub struct RoundConf {
     pub length: u64,
 }
 
+// A round of either kind behind a step, and how many slots it has left.
+#[derive(Clone, Copy)]
+pub struct Step<R> {
+    pub run: R,
+    pub left: u64,
+}
+
+// A round of either kind run to its end, or to the first word that it lacks, and how many rows are due by then.
+#[derive(Clone, Copy)]
+pub struct Survey<R> {
+    pub run: R,
+    pub due: u64,
+}
+
 impl Network {
     // As a room is opened: slot 0, and nothing counted.
     #[tactic(auto, unfolding(crate::specs::Network::new_network))]
@@ -105,7 +119,7 @@ pub fn put_due(rows: &mut [u64], at: usize, slot: u64, r: Row) -> usize
     if !rows::row_due(r.slot, slot) {
         return at;
     }
-    if rows.len().saturating_sub(at) < limits::ROW {
+    if rows::is_full(rows.len(), at) {
         return at;
     }
     rows::put_row(&mut rows[at..], r);

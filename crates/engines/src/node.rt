@@ -1,5 +1,7 @@
 // RULES 7.1 and 7.2. Ported from node.rs: a position's state, its counts, and one slot's tick. The payload is held
 // beside the node. How many of the 64 are positions is the graph's to say, so n is passed beside them and kept once.
+// No slice of the first n is passed: the rules' equations (specs/Nodes.antt) are on all 64 places, so each caller would
+// cut the slice, and join its equation to the places behind it again, which `change_all` does for all of them.
 ghost use Rattle.std.specs.Prelude.{◌≡◌, ℕ, ◌&&◌, ◌||◌, ◌==◌, ◌<◌, nat_lt};
 ghost use Rattle.loops.specs.Upto.{upto};
 ghost use Rattle.marks.specs.Marks.{has};

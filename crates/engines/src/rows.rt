@@ -2,9 +2,10 @@
 // lent buffer.
 ghost use Rattle.std.specs.Prelude.{◌≡◌, ◌-◌, nat_lt};
 ghost use Rattle.limits.specs.Limits.{row_cells};
-ghost use Rattle.engines.specs.Rows.{highest_progress, row_of, is_due, next_row, due_after, put_row, rows_refused};
+ghost use Rattle.engines.specs.Rows.{highest_progress, row_in, row_of, is_due, next_row, due_after, put_row, rows_refused};
 
-use super::node::Node;
+use super::node;
+use super::node::{Node, StateSets};
 use graph::sets;
 
 #[derive(Clone, Copy)]
@@ -16,7 +17,7 @@ pub struct Row {
     pub sleeping: u64,
 }
 
-// The highest progress of the first n positions.
+// The highest progress of the first n positions. (64 places and n, here and below: see node.rt.)
 pub fn highest_progress(at: [Node; 64], n: usize) -> u64
     ensures { result ≡ highest_progress n at }
 {
@@ -25,19 +26,25 @@ pub fn highest_progress(at: [Node; 64], n: usize) -> u64
         .fold(0, |p, v| p.max(v.progress_count))
 }
 
+// The row of positions in these states.
+pub fn count_states(slot: u64, progress: u64, s: StateSets) -> Row
+    ensures { result ≡ row_in slot progress s }
+{
+    Row {
+        slot,
+        progress,
+        listening: sets::count_marks(s.listening) as u64,
+        flooding: sets::count_marks(s.flooding) as u64,
+        sleeping: sets::count_marks(s.sleeping) as u64,
+    }
+}
+
 // The row of the first n positions, under the slot at which it was due.
 #[tactic(auto, unfolding(crate::specs::Rows::row_of))]
 pub fn take_snapshot(slot: u64, at: [Node; 64], n: usize) -> Row
     ensures { result ≡ row_of slot n at }
 {
-    let s = super::node::state_sets(at, n);
-    Row {
-        slot,
-        progress: highest_progress(at, n),
-        listening: sets::count_marks(s.listening) as u64,
-        flooding: sets::count_marks(s.flooding) as u64,
-        sleeping: sets::count_marks(s.sleeping) as u64,
-    }
+    count_states(slot, highest_progress(at, n), node::state_sets(at, n))
 }
 
 // Whether a row is due, where the next is due at slot next.

@@ -23,7 +23,7 @@ fn pass(v: Node, k: u64) -> Node
     w
 }
 
-// The first n positions after k such slots.
+// The first n positions after k such slots. (64 places and n: see node.rt.)
 pub fn pass_all(at: [Node; 64], n: usize, k: u64) -> [Node; 64]
     ensures { result ≡ passed_all n k at }
 {

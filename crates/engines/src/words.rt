@@ -2,9 +2,10 @@
 ghost use Rattle.std.specs.Prelude.{◌≡◌, ◌+◌, ◌%◌, ◌<◌};
 ghost use Rattle.engines.specs.Words.{unit_of, next_of, coin_of, lost_of, pick_of, swap_step, shuffled};
 
-// The place of the next word, and whether a word was asked for past the end. The cursor may be any number. C is told
-// the place whether or not words ran short, so the flag stands beside it and not around it. Words and cursor are
-// passed apart: rooms keep the cursor between calls, and are lent words for one call alone.
+// The place of the next word, and whether a word was asked for past the end. The cursor may be any number. The flag
+// stands beside the place and not around it: a draw past the end has an answer too (see `next`), so none of the
+// functions that draw has to branch on a lack. Words and cursor are passed apart: rooms keep the cursor between calls,
+// and are lent words for one call alone.
 #[derive(Clone, Copy)]
 pub struct Draw {
     pub at: usize,
@@ -82,7 +83,8 @@ fn swap_step(words: &[u64], ids: &mut [usize; 64], i: usize, d: Draw) -> Draw
     drawn.draw
 }
 
-// The first count numbers shuffled, where they stand.
+// The first count numbers shuffled, where they stand. List and count, and no slice of count: the one equation says too
+// that what stands behind them stays, which a caller that lends a slice would have to put together again.
 pub fn shuffle(words: &[u64], ids: &mut [usize; 64], count: usize, d: Draw) -> Draw
     ensures { record { ids = ids.exit.now; draw = result } ≡ shuffled words.now count (record { ids = ids.entry.now; draw = d }) }
 {

@@ -17,6 +17,10 @@ use Rattle.engines.specs.declared.network.Network.{Network}
 abbrev pub cell : List ℕ → ℕ → ℕ → ℕ
 cell xs at k = get_or xs (at + k) 0
 
+-- the 64 numbers from a place on
+unfoldable pub words_at : List ℕ → ℕ → List ℕ
+words_at xs at = tabulate positions (λ i. cell xs at i)
+
 -- 0 is no, every other number yes
 abbrev pub truth : ℕ → Bool
 truth n = either (eqb n 0) false true

@@ -11,18 +11,14 @@ use engines::network::RoundConf;
 use engines::settings;
 use engines::settings::Settings;
 use engines::words::Draw;
+use graph::network;
 use graph::network::NetworkGraph;
 use limits::refusals;
 use limits::refusals::Refusal;
 
-// A row of links for each position; missing ones are empty.
-fn links_of(links: &[u64]) -> [u64; limits::POSITIONS]
-    ensures { result ≡ links_of links.now }
-{
-    std::array::from_fn(|i| numbers::number(links, i))
-}
-
-// What the numbers of a call say of a round. A capture round reads no repeats.
+// What the numbers of a call say of a round: a row of links for each position, missing ones empty. A capture round
+// reads no repeats.
+#[tactic(auto, unfolding(crate::specs::Console::links_of, crate::specs::Numbers::words_at))]
 fn conf_of(
     links: &[u64],
     n: usize,
@@ -39,7 +35,7 @@ fn conf_of(
     RoundConf {
         graph: NetworkGraph {
             n,
-            adj: links_of(links),
+            adj: numbers::words_of(links, 0),
         },
         settings: Settings {
             loss_rate,
@@ -56,7 +52,7 @@ fn conf_of(
 }
 
 // Why a call is refused before its round is run, the lowest number first.
-#[tactic(auto, unfolding(crate::specs::Console::asked_test, crate::specs::Console::lowest_of))]
+#[tactic(auto, using(graph::proofs::Rules::position_checked), unfolding(crate::specs::Console::asked_test, crate::specs::Console::lowest_of))]
 fn check(xs: &[u64], conf: RoundConf, initiator: usize) -> Result<(), Refusal>
     ensures { result ≡ asked_test conf initiator xs.now }
 {
@@ -67,9 +63,7 @@ fn check(xs: &[u64], conf: RoundConf, initiator: usize) -> Result<(), Refusal>
     if conf.interval == 0 {
         return Err(Refusal::NoInterval);
     }
-    if conf.graph.n <= initiator {
-        return Err(Refusal::NoPosition);
-    }
+    network::check_position(conf.graph.n, initiator)?;
     if !payloads::held_fits(xs, 528, conf.graph.n) {
         return Err(Refusal::BadPacket);
     }

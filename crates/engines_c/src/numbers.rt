@@ -1,10 +1,10 @@
 // RULES 17. State as a lent list of 64-bit numbers, for entries that can be lent numbers and nothing else. A place
 // past the end reads as 0, and nothing is put there, so that no call has to be refused for the length of its list. C
-// lends one list for all of a state, so list and place are passed on; a part of it that was lent instead would have to
-// be made, and could be empty, at each call.
+// lends one list, of any length, for all of a state, so list and place are passed on: a part of it from a place on can
+// be lent only where the list is known to reach that far.
 ghost use Rattle.std.specs.Prelude.{◌≡◌, ◌+◌, ◌≤◌, get_or, set};
 ghost use Rattle.std.proofs.lemmas.List.Edits.{sets};
-ghost use Rattle.engines_c.specs.Numbers.{cell, node_at, nodes_at, node_numbers, put_nodes, metrics_at, metrics_numbers, network_at, put_network};
+ghost use Rattle.engines_c.specs.Numbers.{cell, words_at, node_at, nodes_at, node_numbers, put_nodes, metrics_at, metrics_numbers, network_at, put_network};
 
 use engines::metrics::MetricsCollector;
 use engines::network::Network;
@@ -33,6 +33,13 @@ pub fn number_behind(xs: &[u64], at: usize, k: usize) -> u64
     number(xs, at.saturating_add(k))
 }
 
+// The 64 numbers from a place on.
+pub fn words_of(xs: &[u64], at: usize) -> [u64; 64]
+    ensures { result ≡ words_at xs.now at }
+{
+    std::array::from_fn(|i| number_behind(xs, at, i))
+}
+
 // All values, one behind the other, from k places behind at on.
 pub fn put_run(xs: &mut [u64], at: usize, k: usize, values: &[u64])
     ensures { xs.new ≡ sets xs.old (at + k) values.now }
@@ -47,7 +54,8 @@ pub fn put_run(xs: &mut [u64], at: usize, k: usize, values: &[u64])
 
 // ---- a node: 8 numbers
 
-// The node whose numbers start k places behind at.
+// The node whose numbers start k places behind at. (The bound keeps k + 7 from wrapping; with a first place at which
+// the sum stops, as in `number_behind`, the proof of this and of payloads.rt did not close.)
 #[tactic(auto, unfolding(crate::specs::Numbers::node_at))]
 fn node_of(xs: &[u64], at: usize, k: usize) -> Node
     requires { k ≤ 504 }
@@ -65,7 +73,7 @@ fn node_of(xs: &[u64], at: usize, k: usize) -> Node
     }
 }
 
-fn node_numbers(v: Node) -> [u64; 8]
+pub fn node_numbers(v: Node) -> [u64; 8]
     ensures { result ≡ node_numbers v }
 {
     [

@@ -1,16 +1,15 @@
 // RULES 17. What positions hold as a lent list of numbers, 38 for each: what it is (0 nothing, 1 a text that is no
 // packet, 2 a packet), the packet's term and phase, the length of its data and of its bitmap, the bitmap's marks, and
-// 32 bytes of data.
+// 32 bytes of data. List and place are passed on, and k is bounded, for the reasons that stand in numbers.rt.
 ghost use Rattle.std.specs.Prelude.{◌≡◌, ◌+◌, ◌≤◌};
-ghost use Rattle.packets.specs.Packets.{limits};
 ghost use Rattle.engines_c.specs.Payloads.{held_numbered, bytes_at, payload_at, held_at, bytes_fit, payload_fits, held_fits, payload_numbers, put_payload, put_held};
 
 use super::numbers;
 use merges::merging::{Held, Payload};
-use packets::{Bitmap, CeTwoPcPacket, Data};
+use packets::{Bitmap, CeTwoPcPacket, Data, len};
 use packets_c::console;
 
-// A number above 2 reads as a packet. (No `From` here or below: the enums are other crates' own.)
+// A number above 2 reads as a packet. (No `From`: that is how this list is read, and no rule of `Held`.)
 fn held_numbered(n: u64) -> Held
     ensures { result ≡ held_numbered n }
 {
@@ -69,14 +68,6 @@ fn bytes_fit(xs: &[u64], at: usize, k: usize) -> bool
     (0..limits::DATA).all(|i| numbers::number_behind(xs, at, k + i) <= 255)
 }
 
-// Whether a payload's lengths are within the limits.
-#[tactic(auto, unfolding(packets::specs::Packets::limits))]
-fn lengths_fit(entries: u64, bytes: u64) -> bool
-    ensures { result ≡ limits entries bytes }
-{
-    entries <= limits::BITMAP as u64 && bytes <= limits::DATA as u64
-}
-
 // Whether the numbers that start k places behind at are those of a payload.
 #[tactic(auto, unfolding(crate::specs::Payloads::payload_fits))]
 fn payload_fits(xs: &[u64], at: usize, k: usize) -> bool
@@ -87,7 +78,7 @@ fn payload_fits(xs: &[u64], at: usize, k: usize) -> bool
     let entries = numbers::number_behind(xs, at, k + 4);
     numbers::number_behind(xs, at, k) <= 2
         && numbers::number_behind(xs, at, k + 2) <= 2
-        && lengths_fit(entries, bytes)
+        && len::within(entries as usize, bytes as usize)
         && bytes_fit(xs, at, k + 6)
 }
 

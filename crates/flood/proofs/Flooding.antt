@@ -12,7 +12,7 @@ use Rattle.engines.specs.Rounds.{rows_in, Surveyed}
 use Rattle.engines.specs.declared.network.RoundConf.{RoundConf}
 use Rattle.flood.specs.Flood.{flood_slot, is_over, flood_round, flood_rows, flooded_of}
 use Rattle.flood.specs.declared.flood.FloodRun.{FloodRun}
-use Rattle.flood.specs.declared.flood.FloodSurvey.{FloodSurvey}
+use Rattle.engines.specs.declared.network.Survey.{Survey}
 
 -- a length fits
 pub length_fits : (d k : ℕ) → d ≤ 64 → k < 2 ^ 32 → (d + 2) * k < 2 ^ 64
@@ -31,7 +31,7 @@ module _ (ws : List ℕ) (conf : RoundConf) (bytes : ℕ) (f : FloodRun) {t : Fl
       let d : length (rows_in (λ (r : FloodRun). r.network) is_over (flood_slot ws conf bytes) conf conf.length f) / 5 ≡ due = omega (arith, s.rows e) in
       picked (flood_round ws conf bytes f).draw.short (sym s.short ∙ e) (rw (d, s.state e))
     where
-      picked : (b : Bool) {r y : Option FloodSurvey} → b ≡ false → r ≡ y → r ≡ cond (not b) y None
+      picked : (b : Bool) {r y : Option (Survey FloodRun)} → b ≡ false → r ≡ y → r ≡ cond (not b) y None
       picked b h g = rw h g
 
 -- ---- what a caller makes of it
@@ -62,19 +62,19 @@ module _ (ws : List ℕ) (conf : RoundConf) (bytes : ℕ) (f : FloodRun) where
   short = (flood_round ws conf bytes f).draw.short
 
   -- words were enough, and this is the round
-  pub record Told (x : FloodSurvey) : Type 0 where
+  pub record Told (x : Survey FloodRun) : Type 0 where
     pub enough : short ≡ false
     pub run : x.run ≡ flood_round ws conf bytes f
     pub due : x.due * 5 ≡ length (flood_rows ws conf bytes f)
 
-  pub told_whole : {x : FloodSurvey} → Some x ≡ flooded_of ws conf bytes f → Told x
+  pub told_whole : {x : Survey FloodRun} → Some x ≡ flooded_of ws conf bytes f → Told x
   unfolding flooded_of flood_rows
   told_whole {x} v =
       let e = cond_some (not short) _ x (sym v) in
       record {
         enough = not-true short e.0;
-        run = ap (λ (z : FloodSurvey). z.run) (sym e.1);
-        due = ap (λ (z : FloodSurvey). z.due * 5) (sym e.1) ∙ tell_five conf (flood_slot ws conf bytes) conf.length f.over f;
+        run = ap (λ (z : Survey FloodRun). z.run) (sym e.1);
+        due = ap (λ (z : Survey FloodRun). z.due * 5) (sym e.1) ∙ tell_five conf (flood_slot ws conf bytes) conf.length f.over f;
       }
     where
       not-true : (b : Bool) → not b ≡ true → b ≡ false
@@ -85,6 +85,6 @@ module _ (ws : List ℕ) (conf : RoundConf) (bytes : ℕ) (f : FloodRun) where
   unfolding flooded_of
   told_short v = by short _ v
     where
-      by : (b : Bool) (x : FloodSurvey) → None ≡ cond (not b) (Some x) None → b ≡ true
+      by : (b : Bool) (x : Survey FloodRun) → None ≡ cond (not b) (Some x) None → b ≡ true
       by true x e = refl
       by false x e = absurd (none-some x e)

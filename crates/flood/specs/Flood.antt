@@ -1,6 +1,6 @@
 -- RULES 9, the flood: one packet, sent on by whoever hears it. A link from
 -- i to j says that j hears i: row i of the links has mark j. Assumes nothing.
-use Rattle.std.specs.Prelude.{ℕ, ◌+◌, ◌-◌, ◌*◌, ◌/◌, max, Bool, true, false, not, cond, ◌&&◌, Option, None, Some, List, length, ◌==◌, from_bits, nat_le, nat_lt, slice_index, slice_index_or, slice_set, Float}
+use Rattle.std.specs.Prelude.{ℕ, ◌+◌, ◌-◌, ◌*◌, ◌/◌, max, Bool, false, not, cond, ◌&&◌, Option, None, Some, List, length, ◌==◌, from_bits, nat_le, nat_lt, slice_index, slice_index_or, slice_set, Float}
 use Rattle.std.specs.Float.{binary64}
 use Rattle.std.specs.Float.Ieee.{eq}
 use Rattle.loops.specs.Pick.{either}
@@ -23,7 +23,7 @@ use Rattle.engines.specs.declared.node.Node.{Node}
 use Rattle.engines.specs.declared.node.NodeState.{NodeState}
 use Rattle.engines.specs.declared.node.NodeState.TheVariants.{Listen, Flood, Sleep}
 use Rattle.engines.specs.declared.node.StateSets.{StateSets}
-use Rattle.flood.specs.declared.flood.FloodSurvey.{FloodSurvey}
+use Rattle.engines.specs.declared.network.Survey.{Survey}
 use Rattle.flood.specs.declared.flood.FloodPlan.{FloodPlan}
 use Rattle.flood.specs.declared.flood.FloodRun.{FloodRun}
 
@@ -110,8 +110,11 @@ unfoldable pub nobody_floods : ℕ → List Node → Bool
 nobody_floods n l = (sets_of n l).flooding == 0
 
 -- every flooder sends a header and the whole packet
+abbrev pub sent_by : ℕ → ℕ → ℕ
+sent_by flooding bytes = mul64 (count_of flooding 64) (on_air bytes)
+
 unfoldable pub sent_after : ℕ → ℕ → ℕ → ℕ
-sent_after sent flooding bytes = add64 sent (mul64 (count_of flooding 64) (on_air bytes))
+sent_after sent flooding bytes = add64 sent (sent_by flooding bytes)
 
 -- Everybody ticks; a row may be due; the flooders send; the states turn; and the round is over once nobody will flood.
 abbrev pub after_plan : RoundConf → ℕ → FloodRun → StateSets → FloodPlan → List Node → FloodRun
@@ -165,7 +168,7 @@ unfoldable pub flood_rows : List ℕ → RoundConf → ℕ → FloodRun → List
 flood_rows ws conf bytes f = rows_in (λ g. g.network) is_over (flood_slot ws conf bytes) conf conf.length f
 
 -- What a flood tells, unless words ran short: how many rows are due and how it ended.
-unfoldable pub flooded_of : List ℕ → RoundConf → ℕ → FloodRun → Option FloodSurvey
+unfoldable pub flooded_of : List ℕ → RoundConf → ℕ → FloodRun → Option (Survey FloodRun)
 flooded_of ws conf bytes f =
     cond (not (flood_round ws conf bytes f).draw.short)
     (Some (record { run = flood_round ws conf bytes f; due = length (flood_rows ws conf bytes f) / row_cells }))

@@ -2,15 +2,13 @@
 -- which nothing but counts changes. No rule is said here; what is said is when slots may be taken together, and
 -- what they come to. Assumes nothing.
 use Rattle.std.specs.Prelude.{◌≡◌, ℕ, ◌+◌, ◌<◌, ◌≤◌, true, false, List, slice_index, slice_index_or}
-use Rattle.marks.specs.Marks.{count_of}
 use Rattle.loops.specs.Wrap.{mul64, add64}
 use Rattle.engines.specs.Clamp.{at_most64}
 use Rattle.engines.specs.Nodes.{no_node, is_flood, sets_of}
-use Rattle.engines.specs.Network.{on_air}
 use Rattle.engines.specs.Stretch.{Small, passing}
 use Rattle.engines.specs.declared.node.Node.{Node}
 use Rattle.engines.specs.declared.network.RoundConf.{RoundConf}
-use Rattle.flood.specs.Flood.{hearers_of, nobody_floods}
+use Rattle.flood.specs.Flood.{hearers_of, nobody_floods, sent_by}
 use Rattle.flood.specs.declared.flood.FloodRun.{FloodRun}
 
 -- ---- when
@@ -39,7 +37,7 @@ quietened conf bytes k f =
       network =
           passing conf k f.network
           (add64 f.network.bytes_sent
-          (mul64 k (mul64 (count_of (sets_of conf.graph.n f.network.nodes).flooding 64) (on_air bytes))));
+          (mul64 k (sent_by (sets_of conf.graph.n f.network.nodes).flooding bytes)));
       draw = f.draw;
       over = f.over;
     }

@@ -3,10 +3,9 @@
 ghost use Rattle.std.specs.Prelude.{◌≡◌, ◌<◌};
 ghost use Rattle.engines.specs.Marked.{over_marks};
 ghost use Rattle.engines.specs.Rounds.{placed, Surveyed};
-ghost use Rattle.flood.specs.Flood.{flood_length, framed, hear_at, hearers_of, send_at, flood_plan, in_state, after_flood, after_listen, next_node, turned_all, nobody_floods, sent_after, flood_slot, is_over, reset_all, flood_start, flood_rows, flooded_of};
+ghost use Rattle.flood.specs.Flood.{flood_length, framed, hear_at, hearers_of, flood_plan, in_state, after_flood, after_listen, next_node, turned_all, nobody_floods, sent_by, flood_slot, is_over, reset_all, flood_start, flood_rows, flooded_of};
 
-use super::quiet;
-use engines::network::{Network, RoundConf};
+use engines::network::{Network, RoundConf, Survey};
 use engines::node::{Node, NodeState, StateSets};
 use engines::words::Draw;
 use engines::{network, node, rows, words};
@@ -30,15 +29,9 @@ pub struct FloodRun {
     pub over: bool,
 }
 
-// A flood run to its end, or to the first word that it lacks, and the rows due by then.
-#[derive(Clone, Copy)]
-pub struct FloodSurvey {
-    pub run: FloodRun,
-    pub due: u64,
-}
-
 // How many slots a round may take. A diameter lies below 64, and a longer one is taken for 64: so the product cannot
-// wrap.
+// wrap. (Slots and whether they are given are two, as the settings and C's numbers hold them: an Option would be made
+// by each caller, to be taken apart in the first line.)
 #[tactic(auto, using(crate::proofs::Flooding::length_fits), unfolding(crate::specs::Flood::flood_length))]
 pub fn flood_length(given: bool, slots: u64, diameter: usize, repeats: u32) -> u64
     ensures { result ≡ flood_length given slots diameter repeats }
@@ -101,23 +94,6 @@ fn send(words: &[u64], loss: f64, hearers: u64, p: FloodPlan) -> FloodPlan
     q
 }
 
-// Flooder i is below 64, as its loop has it. Links and loss are passed as the graph and the settings hold them.
-#[tactic(auto, unfolding(crate::specs::Flood::send_at))]
-fn send_at(
-    words: &[u64],
-    loss: f64,
-    links: &[u64; 64],
-    listening: u64,
-    i: usize,
-    p: FloodPlan,
-) -> FloodPlan
-    requires { i < 64 }
-    ensures { result ≡ send_at words.now loss links.now listening i p }
-{
-    let hearers = find_hearers(links[i], listening);
-    send(words, loss, hearers, p)
-}
-
 // The plan of a slot: all flooders, the lowest first. It takes every word that the slot takes.
 fn plan_flood(words: &[u64], loss: f64, links: &[u64; 64], s: StateSets, d: Draw) -> FloodPlan
     ensures { result ≡ flood_plan words.now loss links.now s d }
@@ -129,7 +105,7 @@ fn plan_flood(words: &[u64], loss: f64, links: &[u64; 64], s: StateSets, d: Draw
         success: 0,
     };
     for i in sets::iter(s.flooding) {
-        p = send_at(words, loss, links, s.listening, i, p);
+        p = send(words, loss, find_hearers(links[i], s.listening), p);
     }
     p
 }
@@ -193,60 +169,92 @@ fn nobody_floods(at: [Node; 64], n: usize) -> bool
     node::state_sets(at, n).flooding == 0
 }
 
-// What the flooders add to the bytes sent: each a header and the packet.
-#[tactic(auto, unfolding(crate::specs::Flood::sent_after))]
-fn sent_after(sent: u64, flooding: u64, bytes: u64) -> u64
-    ensures { result ≡ sent_after sent flooding bytes }
+// The bytes that the flooders send in a slot: each a header and the packet.
+pub(crate) fn sent_by(flooding: u64, bytes: u64) -> u64
+    ensures { result ≡ sent_by flooding bytes }
 {
-    let each = (sets::count_marks(flooding) as u64).wrapping_mul(network::on_air(bytes));
-    sent.wrapping_add(each)
+    (sets::count_marks(flooding) as u64).wrapping_mul(network::on_air(bytes))
 }
 
-// One slot of a round.
-#[tactic(auto, unfolding(crate::specs::Flood::flood_slot, engines::specs::Network::ticking))]
-pub(crate) fn flood_slot(words: &[u64], conf: RoundConf, bytes: u64, f: FloodRun) -> FloodRun
-    ensures { result ≡ flood_slot words.now conf bytes f }
-{
-    let w = network::tick(conf, f.network);
-    let g = conf.graph;
-    let s = node::state_sets(w.nodes, g.n);
-    let p = plan_flood(words, conf.settings.loss_rate, &g.adj, s, f.draw);
-    let nodes = turn_all(w.nodes, g.n, p.received, conf.settings.flood_repeats);
-    FloodRun {
-        network: Network {
-            nodes,
-            metrics: w.metrics.count_frames(p.attempts, p.success),
-            slot: w.slot.wrapping_add(1),
-            next_row: rows::next_row(w.next_row, conf.interval, w.slot),
-            bytes_sent: sent_after(w.bytes_sent, s.flooding, bytes),
-        },
-        draw: p.draw,
-        over: nobody_floods(nodes, g.n),
-    }
+// What the slots of a round go by: the words, what no round changes, and how many bytes a packet's text has.
+#[derive(Clone, Copy)]
+pub(crate) struct Slots<'a> {
+    pub words: &'a [u64],
+    pub conf: RoundConf,
+    pub bytes: u64,
 }
 
-// The slots of a round, without its rows. Once words have run short the rest is not run: there may be four billion
-// slots, and a lack stays noted.
-fn survey(words: &[u64], conf: RoundConf, bytes: u64, f: FloodRun) -> FloodSurvey
-    ensures { Surveyed (λ g. g.network) is_over (flood_slot words.now conf bytes) conf (λ g. g.draw) conf.length f result.run result.due }
-{
-    let mut run = f;
-    let mut due: u64 = 0;
-    let mut left = conf.length;
-    // No `for`: a step takes one slot or many.
-    while 0 < left {
-        if run.over {
-            return FloodSurvey { run, due };
+impl Slots<'_> {
+    // One slot of a round.
+    #[tactic(auto, unfolding(crate::specs::Flood::flood_slot, crate::specs::Flood::sent_after, engines::specs::Network::ticking))]
+    pub(crate) fn flood_slot(&self, f: FloodRun) -> FloodRun
+        ensures { result ≡ flood_slot self.now.words.now self.now.conf self.now.bytes f }
+    {
+        let w = network::tick(self.conf, f.network);
+        let g = self.conf.graph;
+        let s = node::state_sets(w.nodes, g.n);
+        let p = plan_flood(self.words, self.conf.settings.loss_rate, &g.adj, s, f.draw);
+        let nodes = turn_all(w.nodes, g.n, p.received, self.conf.settings.flood_repeats);
+        FloodRun {
+            network: Network {
+                nodes,
+                metrics: w.metrics.count_frames(p.attempts, p.success),
+                slot: w.slot.wrapping_add(1),
+                next_row: rows::next_row(w.next_row, self.conf.interval, w.slot),
+                bytes_sent: w.bytes_sent.wrapping_add(sent_by(s.flooding, self.bytes)),
+            },
+            draw: p.draw,
+            over: nobody_floods(nodes, g.n),
         }
-        if run.draw.short {
-            return FloodSurvey { run, due };
-        }
-        due = rows::due_after(due, run.network.next_row, run.network.slot);
-        let step = quiet::advance(words, conf, bytes, run, left);
-        run = step.run;
-        left = step.left;
     }
-    FloodSurvey { run, due }
+
+    // ---- a run of slots: two loops, which a capture round has too. Why not once: see capture src/capture.rt.
+
+    // The slots of a round, without its rows. Once words have run short the rest is not run: there may be four billion
+    // slots, and a lack stays noted.
+    fn survey(&self, f: FloodRun) -> Survey<FloodRun>
+        ensures { Surveyed (λ g. g.network) is_over (flood_slot self.now.words.now self.now.conf self.now.bytes) self.now.conf (λ g. g.draw) self.now.conf.length f result.run result.due }
+    {
+        let mut run = f;
+        let mut due: u64 = 0;
+        let mut left = self.conf.length;
+        // No `for`: a step takes one slot or many.
+        while 0 < left {
+            if run.over {
+                return Survey { run, due };
+            }
+            if run.draw.short {
+                return Survey { run, due };
+            }
+            due = rows::due_after(due, run.network.next_row, run.network.slot);
+            let step = self.advance(run, left);
+            run = step.run;
+            left = step.left;
+        }
+        Survey { run, due }
+    }
+
+    // The slots of a round once more, for its rows alone: as many as the part that is lent holds whole.
+    fn record_run(&self, part: &mut [u64], f: FloodRun)
+        ensures { part.new ≡ placed part.old 0 (flood_rows self.now.words.now self.now.conf self.now.bytes f) }
+    {
+        let mut run = f;
+        let mut at: usize = 0;
+        let mut left = self.conf.length;
+        // No `for`: a step takes one slot or many.
+        while 0 < left {
+            if run.over {
+                return;
+            }
+            if rows::is_full(part.len(), at) {
+                return;
+            }
+            at = network::write_row(part, at, self.conf, run.network);
+            let step = self.advance(run, left);
+            run = step.run;
+            left = step.left;
+        }
+    }
 }
 
 // A round without its rows; none if words ran short.
@@ -255,10 +263,11 @@ pub fn flood_identical_round(
     conf: RoundConf,
     bytes: u64,
     f: FloodRun,
-) -> Option<FloodSurvey>
+) -> Option<Survey<FloodRun>>
     ensures { result ≡ flooded_of words.now conf bytes f }
 {
-    let s = survey(words, conf, bytes, f);
+    let slots = Slots { words, conf, bytes };
+    let s = slots.survey(f);
     if s.run.draw.short {
         return None;
     }
@@ -284,24 +293,10 @@ pub fn start_flood(at: [Node; 64], n: usize, initiator: usize, repeats: u32) -> 
     a
 }
 
-// The slots of a round once more, for its rows alone: as many as the part that is lent holds whole.
+// The rows of a round, into a part of their length.
 pub fn write_rows(words: &[u64], conf: RoundConf, bytes: u64, part: &mut [u64], f: FloodRun)
     ensures { part.new ≡ placed part.old 0 (flood_rows words.now conf bytes f) }
 {
-    let mut run = f;
-    let mut at: usize = 0;
-    let mut left = conf.length;
-    // No `for`: a step takes one slot or many.
-    while 0 < left {
-        if run.over {
-            return;
-        }
-        if rows::is_full(part.len(), at) {
-            return;
-        }
-        at = network::write_row(part, at, conf, run.network);
-        let step = quiet::advance(words, conf, bytes, run, left);
-        run = step.run;
-        left = step.left;
-    }
+    let slots = Slots { words, conf, bytes };
+    slots.record_run(part, f);
 }

@@ -6,18 +6,10 @@ ghost use Rattle.flood.specs.Flood.{flood_slot, is_over};
 ghost use Rattle.flood.specs.Quiet.{quietened, QuietFor, QuietOf, QuietSlots};
 
 use super::flood;
-use super::flood::FloodRun;
-use engines::network::{Network, RoundConf};
+use super::flood::{FloodRun, Slots};
+use engines::network::{Network, RoundConf, Step};
 use engines::node::{Node, NodeState};
-use engines::{network, node, stretch};
-use graph::sets;
-
-// A round behind a step, and the slots that it still has.
-#[derive(Clone, Copy)]
-pub(crate) struct FloodStep {
-    pub run: FloodRun,
-    pub left: u64,
-}
+use engines::{node, stretch};
 
 // How many of the next `most` slots leave a position as it is but for counts. A flooder's last flood is none of them:
 // it sleeps after it.
@@ -77,47 +69,42 @@ fn quiet_slots(conf: RoundConf, f: FloodRun, left: u64) -> u64
     quiet_for_all(w.nodes, g.n, &g.adj, s.listening, most)
 }
 
-// k such slots.
-#[tactic(auto, unfolding(crate::specs::Quiet::quietened))]
-fn pass_slots(conf: RoundConf, bytes: u64, f: FloodRun, k: u64) -> FloodRun
-    ensures { result ≡ quietened conf bytes k f }
-{
-    let w = f.network;
-    let s = node::state_sets(w.nodes, conf.graph.n);
-    let each = (sets::count_marks(s.flooding) as u64).wrapping_mul(network::on_air(bytes));
-    FloodRun {
-        network: Network {
-            nodes: stretch::pass_all(w.nodes, conf.graph.n, k),
-            slot: w.slot.wrapping_add(k),
-            bytes_sent: w.bytes_sent.wrapping_add(k.wrapping_mul(each)),
-            ..w
-        },
-        ..f
+impl Slots<'_> {
+    // k such slots.
+    #[tactic(auto, unfolding(crate::specs::Quiet::quietened))]
+    fn pass(&self, f: FloodRun, k: u64) -> FloodRun
+        ensures { result ≡ quietened self.now.conf self.now.bytes k f }
+    {
+        let n = self.conf.graph.n;
+        let w = f.network;
+        let s = node::state_sets(w.nodes, n);
+        let each = flood::sent_by(s.flooding, self.bytes);
+        FloodRun {
+            network: Network {
+                nodes: stretch::pass_all(w.nodes, n, k),
+                slot: w.slot.wrapping_add(k),
+                bytes_sent: w.bytes_sent.wrapping_add(k.wrapping_mul(each)),
+                ..w
+            },
+            ..f
+        }
     }
-}
 
-// One slot, or as many as can be taken at once.
-pub(crate) fn advance(
-    words: &[u64],
-    conf: RoundConf,
-    bytes: u64,
-    f: FloodRun,
-    left: u64,
-) -> FloodStep
-    requires { (0 < left) × (f.over ≡ false) }
-    ensures { Stepped (λ g. g.network) is_over (flood_slot words.now conf bytes) conf left f result.left result.run }
-{
-    let k = quiet_slots(conf, f, left);
-    if k == 0 {
-        let run = flood::flood_slot(words, conf, bytes, f);
-        return FloodStep {
-            run,
-            left: left - 1,
-        };
-    }
-    let run = pass_slots(conf, bytes, f, k);
-    FloodStep {
-        run,
-        left: left - k,
+    // One slot, or as many as can be taken at once.
+    pub(crate) fn advance(&self, f: FloodRun, left: u64) -> Step<FloodRun>
+        requires { (0 < left) × (f.over ≡ false) }
+        ensures { Stepped (λ g. g.network) is_over (flood_slot self.now.words.now self.now.conf self.now.bytes) self.now.conf left f result.left result.run }
+    {
+        let k = quiet_slots(self.conf, f, left);
+        if k == 0 {
+            return Step {
+                run: self.flood_slot(f),
+                left: left - 1,
+            };
+        }
+        Step {
+            run: self.pass(f, k),
+            left: left - k,
+        }
     }
 }

@@ -7,8 +7,7 @@ use Rattle.loops.specs.Pick.{either}
 use Rattle.loops.specs.Table.{tabulate}
 use Rattle.marks.specs.Marks.{all_of}
 use Rattle.frame.specs.Bounds.{frame_digits}
-use Rattle.room.specs.declared.room.RoomKind.{RoomKind}
-use Rattle.room.specs.declared.room.RoomKind.TheVariants as kinds
+use Rattle.room.specs.Kinds.{kind_numbered}
 use Rattle.frame.specs.declared.line.Frame.{Frame}
 
 -- Digits are 0 to 9 and A to F.
@@ -49,9 +48,6 @@ has_name s =
 abbrev pub is_kind : ℕ → Bool
 is_kind k = eqb k 1 || eqb k 2
 
-abbrev pub kind_of : ℕ → RoomKind
-kind_of k = either (eqb k 1) kinds.Pipeline kinds.Capture
-
 -- A frame: digits, not too many, and nothing else; room for the fixed fields and one byte of a name; a kind.
 unfoldable pub is_frame : List ℕ → Bool
 is_frame s =
@@ -72,7 +68,7 @@ words_of s = tabulate (word_count s) (λ k. number_at s (76 + 2 * name_length s 
 unfoldable pub fields_of : List ℕ → Frame
 fields_of s =
     record {
-      kind = kind_of (number_at s 0 2);
+      kind = kind_numbered (number_at s 0 2);
       positions = number_at s 2 2;
       topology = number_at s 4 2;
       argument = number_at s 6 2;

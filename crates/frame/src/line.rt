@@ -1,6 +1,6 @@
 // RULES 13.1 and 13.2. A frame line's digits and fields: what refusal 1 is about.
-ghost use Rattle.std.specs.Prelude.{true, ◌≡◌, ◌+◌, ◌^◌, ◌<◌, ◌≤◌, length, get_or};
-ghost use Rattle.frame.specs.Lines.{is_hex, digit_of, number_at, all_hex, name_byte, name_fits, has_name, is_kind, kind_of, name_length, is_frame, word_count, fields_of, frame_of};
+ghost use Rattle.std.specs.Prelude.{true, ◌≡◌, ◌+◌, ◌≤◌, length, get_or};
+ghost use Rattle.frame.specs.Lines.{is_hex, digit_of, number_at, all_hex, name_byte, name_fits, has_name, is_kind, name_length, is_frame, word_count, fields_of, frame_of};
 
 use crate::bounds::DIGITS;
 use limits::refusals::Refusal;
@@ -44,21 +44,21 @@ fn digit(b: u8) -> u64
 
 // The number that c digits from place i on are, the highest first.
 #[tactic(auto, using(crate::proofs::Digits::number_none, crate::proofs::Digits::number_room, crate::proofs::Digits::number_more, crate::proofs::Digits::digit_lt))]
-fn number_at(s: &[u8], i: usize, c: usize) -> u64
-    requires { (c ≤ 16) × (i < 2 ^ 32) }
+fn number_at(s: &[u8], i: u32, c: usize) -> u64
+    requires { c ≤ 16 }
     ensures { result ≡ number_at s.now i c }
 {
     let mut v: u64 = 0;
     for k in 0..c {
-        v = v * 16 + digit(s.get(i + k).copied().unwrap_or(0));
+        v = v * 16 + digit(s.get(i as usize + k).copied().unwrap_or(0));
     }
     v
 }
 
-// The number that two digits are.
+// The number that two digits are. (Not one generic with the next: that the number fits is a lemma for each width, which
+// a generic would ask of its callers.)
 #[tactic(auto, using(crate::proofs::Digits::byte_lt))]
-pub(crate) fn byte_at(s: &[u8], i: usize) -> u8
-    requires { i < 2 ^ 32 }
+pub(crate) fn byte_at(s: &[u8], i: u32) -> u8
     ensures { result ≡ number_at s.now i 2 }
 {
     number_at(s, i, 2) as u8
@@ -66,8 +66,7 @@ pub(crate) fn byte_at(s: &[u8], i: usize) -> u8
 
 // The number that eight digits are.
 #[tactic(auto, using(crate::proofs::Digits::four_bytes_lt))]
-fn four_bytes_at(s: &[u8], i: usize) -> u32
-    requires { i < 2 ^ 32 }
+fn four_bytes_at(s: &[u8], i: u32) -> u32
     ensures { result ≡ number_at s.now i 8 }
 {
     number_at(s, i, 8) as u32
@@ -109,18 +108,18 @@ pub(crate) fn word_at(s: &[u8], i: usize) -> u64
     v
 }
 
-fn is_name_byte(s: &[u8], k: usize) -> bool
-    requires { k < 256 }
+fn is_name_byte(s: &[u8], k: u8) -> bool
     ensures { result ≡ name_byte s.now k }
 {
-    matches!(byte_at(s, 76 + 2 * k), 33..=126)
+    matches!(byte_at(s, 76 + 2 * k as u32), 33..=126)
 }
 
+// (`(0..n).all(..)` was tried: it was not proved that over bytes it is the `all_of` of the rule.)
 #[tactic(auto, unfolding(crate::specs::Lines::name_fits), using(crate::proofs::Digits::name_none, crate::proofs::Digits::name_more, crate::proofs::Digits::name_bad))]
 fn name_fits(s: &[u8], n: u8) -> bool
     ensures { result ≡ name_fits s.now n }
 {
-    for k in 0..n as usize {
+    for k in 0..n {
         if !is_name_byte(s, k) {
             return false;
         }
@@ -133,16 +132,6 @@ fn is_kind(k: u8) -> bool
     ensures { result ≡ is_kind k }
 {
     matches!(k, 1 | 2)
-}
-
-// No `TryFrom`: `RoomKind` is room's, and a line of no kind is refused before, with all else that refusal 1 is about.
-fn kind_of(k: u8) -> RoomKind
-    ensures { result ≡ kind_of k }
-{
-    match k {
-        1 => RoomKind::Pipeline,
-        _ => RoomKind::Capture,
-    }
 }
 
 // Refusal 1: the line is no frame.
@@ -190,7 +179,7 @@ fn fields_of(s: &[u8]) -> Frame
     ensures { result ≡ fields_of s.now }
 {
     Frame {
-        kind: kind_of(byte_at(s, 0)),
+        kind: RoomKind::from(u64::from(byte_at(s, 0))),
         positions: byte_at(s, 2),
         topology: byte_at(s, 4),
         argument: byte_at(s, 6),

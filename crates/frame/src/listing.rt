@@ -35,8 +35,8 @@ fn outcome_of(s: &[u8], words: &mut [u64; WORDS]) -> Result<u64, Refusal>
 fn put_name(s: &[u8], out: &mut [u8; LISTING], n: u8)
     ensures { Put out.old 0 (name_of s.now n) n out.new }
 {
-    for k in 0..n as usize {
-        out[k] = line::byte_at(s, 76 + 2 * k);
+    for k in 0..n {
+        out[k as usize] = line::byte_at(s, 76 + 2 * k as u32);
     }
 }
 

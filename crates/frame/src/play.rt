@@ -1,7 +1,7 @@
 // RULES 13.3 and 13.4. The room that a frame asks for, and the calls that it makes.
-ghost use Rattle.std.specs.Prelude.{◌≡◌, ◌<◌};
+ghost use Rattle.std.specs.Prelude.{◌≡◌, ◌<◌, Ok};
 ghost use Rattle.std.specs.Float.{binary64};
-ghost use Rattle.std.specs.Float.Ieee.{of_bits, nan_bits};
+ghost use Rattle.std.specs.Float.Ieee.{of_bits};
 ghost use Rattle.room.specs.Kinds.{positions_of};
 ghost use Rattle.frame.specs.Play.{left_by, unless_refused, capture_end, pipeline_end, settings_of, asked_of, new_play, proposing, capturing, capture_turn, play_capture, pipeline_turn, play_pipeline, play_of, accepted_by, played_in, links_of, played_of};
 
@@ -17,25 +17,17 @@ use room::{capture_calls, pipeline_calls, room as rooms};
 
 // ---- the room
 
-// The field of the exponent is full, and that of the digits is not 0.
-fn is_nan(bits: u64) -> bool
-    ensures { result ≡ nan_bits binary64 bits }
-{
-    if bits % 9223372036854775808 / 4503599627370496 != 2047 {
-        return false;
-    }
-    bits % 4503599627370496 != 0
-}
-
-// The value of a pattern of bits. Every NaN is one value, which only arithmetic makes: the language makes none of
-// bits.
+// The value of a pattern of bits. Every NaN is one value: the language makes none of bits. Without its sign a NaN's
+// pattern stands above that of infinity.
+#[tactic(auto, using(std::proofs::lemmas::Float::not_nan_f64_bits, crate::proofs::Floats::nan_above))]
 fn float_of(bits: u64) -> f64
     ensures { result ≡ of_bits binary64 bits }
 {
-    if is_nan(bits) {
-        return 0.0 / 0.0;
+    if bits % 0x8000_0000_0000_0000 <= 0x7ff0_0000_0000_0000 {
+        f64::from_bits(bits)
+    } else {
+        f64::NAN
     }
-    f64::from_bits(bits)
 }
 
 #[tactic(auto, unfolding(crate::specs::Play::settings_of))]
@@ -70,9 +62,17 @@ fn asked_of(f: Frame, graph: NetworkGraph) -> Asked
     }
 }
 
+// What an accepted room goes by: so it has a position.
+#[derive(Clone, Copy)]
+pub struct AcceptedRoom {
+    pub conf: RoomConf,
+    ghost has_positions: { 0 < positions_of conf },
+}
+
 // ---- the calls of a room. They move its network and the part of its kind: a frame needs nothing else of a room.
 
-// Where the calls have come to: the words drawn, the rows used, the network, and the part of the room's kind.
+// Where the calls have come to: the words drawn, the rows used, the network, and the part of the room's kind. The words
+// and what the room goes by are passed beside it: no call changes them, and the rules speak of what calls change.
 #[derive(Clone, Copy)]
 pub struct Playing<P> {
     pub cursor: usize,
@@ -117,29 +117,25 @@ fn capture_next(words: &[u64], conf: RoomConf, s: &mut Playing<CapturePart>) -> 
     )
 }
 
-// That an accepted room has a position stands in the clauses of this, `play_capture` and `play`: the fields of RoomConf
-// stay open, so no type of it can say so.
 #[tactic(auto, unfolding(crate::specs::Play::capture_turn))]
 fn capture_turn(
     words: &[u64],
-    conf: RoomConf,
+    room: AcceptedRoom,
     k: usize,
     s: &mut Playing<CapturePart>,
 ) -> Result<(), Refusal>
-    requires { 0 < positions_of conf }
-    ensures { left_by result s.new ≡ capture_turn words.now conf k s.old }
+    ensures { left_by result s.new ≡ capture_turn words.now room.conf k s.old }
 {
-    propose(conf, k % conf.round.graph.n, s)?;
-    capture_next(words, conf, s)
+    propose(room.conf, k % room.conf.round.graph.n, s)?;
+    capture_next(words, room.conf, s)
 }
 
-fn play_capture(words: &[u64], conf: RoomConf, t: usize) -> Result<u64, Refusal>
-    requires { 0 < positions_of conf }
-    ensures { result ≡ unless_refused capture_end (play_capture t words.now conf) }
+fn play_capture(words: &[u64], room: AcceptedRoom, t: u8) -> Result<u64, Refusal>
+    ensures { result ≡ unless_refused capture_end (play_capture t words.now room.conf) }
 {
     let mut captured = new_play(CapturePart::new(0));
     for k in 0..t {
-        capture_turn(words, conf, k, &mut captured)?;
+        capture_turn(words, room, k as usize, &mut captured)?;
     }
     Ok(captured.network.bytes_sent)
 }
@@ -167,12 +163,11 @@ fn pipeline_turn(
     )
 }
 
-fn play_pipeline(words: &[u64], conf: RoomConf, t: usize) -> Result<u64, Refusal>
-    requires { t < 256 }
+fn play_pipeline(words: &[u64], conf: RoomConf, t: u8) -> Result<u64, Refusal>
     ensures { result ≡ unless_refused pipeline_end (play_pipeline t words.now conf) }
 {
     let mut ran = new_play(PipelinePart::new());
-    for k in 0..t + 1002 {
+    for k in 0..t as usize + 1002 {
         if ran.part.stop {
             return Ok(ran.network.bytes_sent);
         }
@@ -184,30 +179,31 @@ fn play_pipeline(words: &[u64], conf: RoomConf, t: usize) -> Result<u64, Refusal
 // ---- what comes of them
 
 // The bytes sent.
-fn play(f: Frame, words: &[u64], conf: RoomConf) -> Result<u64, Refusal>
-    requires { 0 < positions_of conf }
-    ensures { result ≡ play_of f words.now conf }
+fn play(f: Frame, words: &[u64], room: AcceptedRoom) -> Result<u64, Refusal>
+    ensures { result ≡ play_of f words.now room.conf }
 {
-    let t = f.transactions as usize;
     match f.kind {
-        RoomKind::Pipeline => play_pipeline(words, conf, t),
-        RoomKind::Capture => play_capture(words, conf, t),
+        RoomKind::Pipeline => play_pipeline(words, room.conf, f.transactions),
+        RoomKind::Capture => play_capture(words, room, f.transactions),
     }
 }
 
-fn accepted(asked: Asked) -> Result<RoomConf, Refusal>
-    ensures { result ≡ accepted_by asked }
+#[tactic(auto, using(room::proofs::Calling::opened_size))]
+fn accepted(asked: Asked) -> Result<AcceptedRoom, Refusal>
+    ensures { unless_refused (λ room. Ok room.conf) result ≡ accepted_by asked }
 {
     asked.check()?;
-    Ok(rooms::conf_of(asked))
+    Ok(AcceptedRoom {
+        conf: rooms::conf_of(asked),
+    })
 }
 
-#[tactic(auto, unfolding(crate::specs::Play::played_in), using(room::proofs::Calling::opened_size))]
+#[tactic(auto, unfolding(crate::specs::Play::played_in))]
 fn play_in(f: Frame, words: &[u64], graph: NetworkGraph) -> Result<u64, Refusal>
     ensures { result ≡ played_in f words.now graph }
 {
-    let conf = accepted(asked_of(f, graph))?;
-    play(f, words, conf)
+    let room = accepted(asked_of(f, graph))?;
+    play(f, words, room)
 }
 
 fn links_of(f: Frame) -> Result<NetworkGraph, Refusal>

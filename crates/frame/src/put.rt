@@ -4,7 +4,8 @@ ghost use Rattle.texts.specs.Put.{Put};
 ghost use Rattle.texts.specs.Decimal.{decimal};
 
 // The digits of a number at the front of what is lent, and how many they are; those before the last one first, so that
-// nothing has to be turned round. Where they fit is a clause, since how many there are hangs on the number.
+// nothing has to be turned round. Where they fit is a clause, since how many there are hangs on the number. (Not the
+// writer of `packets`: that one carries a place on from field to field, and a listing line has one number.)
 pub(crate) fn put_decimal(buf: &mut [u8], n: u64) -> usize
     requires { length (decimal n) ≤ length buf.old }
     ensures { Put buf.old 0 (decimal n) result buf.new }

@@ -21,7 +21,7 @@ use Rattle.marks.specs.Marks.{has, marks, all_of, members}
 use Rattle.marks.specs.Laws.{has_none}
 use Rattle.graph.specs.declared.network.NetworkGraph.{NetworkGraph}
 use Rattle.graph.specs.declared.network.NeighborList.{NeighborList}
-use Rattle.graph.specs.Links.{is_size, tree_rule, grid_rule, next_rule, graph_by, inside, all_inside, list_of, size_test, graph_test, node_test}
+use Rattle.graph.specs.Links.{is_size, tree_rule, grid_rule, next_rule, graph_by, inside, all_inside, list_of, size_test, position_test, graph_test, node_test}
 
 pub eqb_iff : (a b c d : ℕ) → (a ≡ b → c ≡ d) → (c ≡ d → a ≡ b) → eqb a b ≡ eqb c d
 eqb_iff a b c d f g = iff (eqb a b) (eqb c d) (λ e. eq-eqb c d (f (eqb-true a b e))) (λ e. eq-eqb a b (g (eqb-true c d e)))
@@ -162,6 +162,11 @@ node_parts g i e =
     let first = first_held (graph_test g) (holds_or (ltb i g.n) NoPosition) tt e in
     let second = second_held (graph_test g) (holds_or (ltb i g.n) NoPosition) tt e in
     ((graph_parts g first).1, ltb-true i g.n (held (ltb i g.n) NoPosition second))
+
+-- of a graph that is not refused only the position is left to test
+pub position_checked : (g : NetworkGraph) (i : ℕ) → graph_test g ≡ Ok tt → position_test g.n i ≡ holds_or (ltb i g.n) NoPosition
+unfolding graph_test position_test
+position_checked g i e = rw (first_held (size_test g.n) (all_inside g.n g.adj) tt e)
 
 -- the rows that were copied are those of the rule
 pub copied_is : (l : List ℕ) → length l ≤ 64 → l ++ drop (length l) (replicate 64 0) ≡ filled 0 64 (length l) (λ i. get_or l i 0)

@@ -6,7 +6,7 @@ ghost use Rattle.limits.specs.Refusals.{answer_of, after, and_then};
 ghost use Rattle.graph.specs.Console.{room64, built_told, neighbors_told, diameter_told, link_told, path_told, flag};
 
 use super::network::NetworkGraph;
-use limits::refusals::{Refusal, answer};
+use limits::refusals::{Refusal, answer, tell};
 
 // The first 64 numbers of what is lent become these: one for each position that there may be.
 #[tactic(auto, using(crate::proofs::Entries::stored))]
@@ -56,13 +56,7 @@ pub extern "C" fn graph_neighbors(rows: &[u64], i: usize, out: &mut [u64], count
     ensures out_after { out.new ≡ after (neighbors_told rows.now i (length out.old)) (λ l. sets out.old 0 l.at) out.old }
     ensures count_after { count.new ≡ after (neighbors_told rows.now i (length out.old)) (λ l. l.count) count.old }
 {
-    match neighbors(rows, i, out) {
-        Ok(found) => {
-            *count = found;
-            0
-        }
-        Err(refusal) => refusal.into(),
-    }
+    tell(neighbors(rows, i, out), count)
 }
 
 fn diameter(rows: &[u64]) -> Result<usize, Refusal>
@@ -77,19 +71,14 @@ pub extern "C" fn graph_diameter(rows: &[u64], links: &mut usize) -> u64
     ensures value { result ≡ answer_of (diameter_told rows.now) }
     ensures links_after { links.new ≡ after (diameter_told rows.now) (λ d. d) links.old }
 {
-    match diameter(rows) {
-        Ok(longest) => {
-            *links = longest;
-            0
-        }
-        Err(refusal) => refusal.into(),
-    }
+    tell(diameter(rows), links)
 }
 
-fn has_link(rows: &[u64], i: usize, j: usize) -> Result<bool, Refusal>
-    ensures { result ≡ link_told rows.now i j }
+fn has_link(rows: &[u64], i: usize, j: usize) -> Result<usize, Refusal>
+    ensures { result ≡ and_then (link_told rows.now i j) (λ holds. Ok (flag holds)) }
 {
-    NetworkGraph::from_rows(rows)?.has_link(i, j)
+    let holds = NetworkGraph::from_rows(rows)?.has_link(i, j)?;
+    Ok(holds as usize)
 }
 
 // Whether j hears i: 1 or 0. 2, 3, 8.
@@ -98,19 +87,15 @@ pub extern "C" fn graph_has_link(rows: &[u64], i: usize, j: usize, answer: &mut 
     ensures value { result ≡ answer_of (link_told rows.now i j) }
     ensures answer_after { answer.new ≡ after (link_told rows.now i j) flag answer.old }
 {
-    match has_link(rows, i, j) {
-        Ok(holds) => {
-            *answer = holds as usize;
-            0
-        }
-        Err(refusal) => refusal.into(),
-    }
+    tell(has_link(rows, i, j), answer)
 }
 
-fn reaches(rows: &[u64], i: usize, j: usize) -> Result<bool, Refusal>
-    ensures { result ≡ path_told rows.now i j }
+// (As `has_link`: one function for both would take the call and its rule as arguments.)
+fn reaches(rows: &[u64], i: usize, j: usize) -> Result<usize, Refusal>
+    ensures { result ≡ and_then (path_told rows.now i j) (λ holds. Ok (flag holds)) }
 {
-    NetworkGraph::from_rows(rows)?.reaches(i, j)
+    let holds = NetworkGraph::from_rows(rows)?.reaches(i, j)?;
+    Ok(holds as usize)
 }
 
 // Whether what i sends can come to j: 1 or 0. 2, 3, 8.
@@ -119,11 +104,5 @@ pub extern "C" fn graph_reaches(rows: &[u64], i: usize, j: usize, answer: &mut u
     ensures value { result ≡ answer_of (path_told rows.now i j) }
     ensures answer_after { answer.new ≡ after (path_told rows.now i j) flag answer.old }
 {
-    match reaches(rows, i, j) {
-        Ok(holds) => {
-            *answer = holds as usize;
-            0
-        }
-        Err(refusal) => refusal.into(),
-    }
+    tell(reaches(rows, i, j), answer)
 }

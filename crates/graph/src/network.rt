@@ -8,7 +8,7 @@ ghost use Rattle.loops.specs.Pick.{either};
 ghost use Rattle.loops.specs.Table.{filled};
 ghost use Rattle.marks.specs.Marks.{has, marks, all_of};
 ghost use Rattle.graph.specs.declared.network.Topology.TheVariants.{FullMesh, Line, Ring, Tree};
-ghost use Rattle.graph.specs.Links.{graph_by, size_test, built_of, ahead_of, link_of, ring_rule, grid_rule, tree_rule, grid_of, topology_of, plain_of, inside, all_inside, rows_of, graph_test, node_test, pair_test, row_of, list_of, neighbors_of};
+ghost use Rattle.graph.specs.Links.{graph_by, size_test, built_of, ahead_of, link_of, ring_rule, grid_rule, tree_rule, grid_of, topology_of, plain_of, inside, all_inside, rows_of, graph_test, position_test, node_test, pair_test, row_of, list_of, neighbors_of};
 ghost use Rattle.graph.specs.Paths.{Longest, reached, diameter_of, length_of, has_link_of, reaches_of};
 ghost use Rattle.graph.specs.Waves.{leads, step_of, wave_of};
 
@@ -22,8 +22,8 @@ pub struct NetworkGraph {
     pub adj: [u64; limits::POSITIONS],
 }
 
-// The neighbours of a position in rising order, with zeros behind the first `count`. Kept as an array with its length
-// beside it: there is no heap, and C takes both.
+// The neighbours of a position in rising order, with zeros behind the first `count`. Not the kit's ArrayVec, which has
+// no Copy and shows none of the zeros: C is given all 64 numbers, and the count beside them.
 #[derive(Clone, Copy)]
 pub struct NeighborList {
     pub count: usize,
@@ -163,6 +163,18 @@ pub fn check_size(n: usize) -> Result<(), Refusal>
     Ok(())
 }
 
+// One of n positions, which are 1 to 64.
+#[tactic(auto, unfolding(crate::specs::Links::position_test))]
+pub fn check_position(n: usize, i: usize) -> Result<(), Refusal>
+    ensures { result ≡ position_test n i }
+{
+    check_size(n)?;
+    if n <= i {
+        return Err(Refusal::NoPosition);
+    }
+    Ok(())
+}
+
 #[tactic(auto, using(crate::proofs::Rules::size_parts))]
 fn build(t: Topology, n: usize) -> Result<NetworkGraph, Refusal>
     ensures { result ≡ built_of n (link_of t n) }
@@ -205,7 +217,8 @@ fn plain(t: Topology, n: usize, argument: usize) -> Result<NetworkGraph, Refusal
     build(t, n)
 }
 
-// The marks of a word in rising order.
+// The marks of a word in rising order. (`sets::iter` with `enumerate` is no plainer: `count` is kept for C either way,
+// and the rule lists the marks below a bound, which rises here by one a turn.)
 #[tactic(auto, using(crate::proofs::Rules::list_none, crate::proofs::Rules::list_room, crate::proofs::Rules::list_more, crate::proofs::Rules::list_same))]
 fn list_marks(m: u64) -> NeighborList
     ensures { result ≡ list_of m 64 }
@@ -339,15 +352,12 @@ impl NetworkGraph {
     }
 
     // Refusals 2, 3 and 8 of a call on position i.
-    #[tactic(auto, unfolding(crate::specs::Links::node_test))]
+    #[tactic(auto, using(crate::proofs::Rules::position_checked), unfolding(crate::specs::Links::node_test))]
     fn check_node(&self, i: usize) -> Result<(), Refusal>
         ensures { result ≡ node_test self.now i }
     {
         self.check()?;
-        if i >= self.n {
-            return Err(Refusal::NoPosition);
-        }
-        Ok(())
+        check_position(self.n, i)
     }
 
     fn check_pair(&self, i: usize, j: usize) -> Result<(), Refusal>

@@ -1,7 +1,7 @@
 // RULES 15. Why a call is refused, and the numbers of the refusals. Where several hold the lowest is told, but for
 // NoFit of a stated length, which comes before BadPacket.
 ghost use Rattle.std.specs.Prelude.{◌≡◌};
-ghost use Rattle.limits.specs.Refusals.{number_of, answer_of};
+ghost use Rattle.limits.specs.Refusals.{number_of, answer_of, after};
 
 use std::error::Error;
 use std::fmt;
@@ -100,6 +100,20 @@ pub fn answer<T: Drop>(told: Result<T, Refusal>) -> u64
 {
     match told {
         Ok(_) => 0,
+        Err(refusal) => u64::from(refusal),
+    }
+}
+
+// The same, and what is told goes to the place that C lent for it, which a refused call leaves.
+pub fn tell<T: Copy>(told: Result<T, Refusal>, place: &mut T) -> u64
+    ensures value { result ≡ answer_of told }
+    ensures place_after { place.new ≡ after told (λ x. x) place.old }
+{
+    match told {
+        Ok(x) => {
+            *place = x;
+            0
+        }
         Err(refusal) => u64::from(refusal),
     }
 }

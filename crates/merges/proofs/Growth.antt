@@ -3,16 +3,14 @@
 use Rattle.std.proofs.Common.{◌≡◌, ℕ, ◌<◌, ◌≤◌, true, eqb, ltb, sym, refl, ◌∙◌, zero-le, arith, ltb-true}
 use Rattle.marks.specs.Marks.{has}
 use Rattle.loops.specs.Wrap.{add64}
-use Rattle.merges.specs.Merging.{Draft, Noes, unanimous_of, rank_of, ensure_of, decided_of, acknowledged_of, voiced_of, settled_of, adopted_of, raised_of, own_of, same_term_of, outdated, heard_of, merged_by, merge_of, blank, proposal_of}
+use Rattle.merges.specs.Merging.{Redundant, NewInfo, Merged, Draft, Noes, unanimous_of, rank_of, ensure_of, decided_of, acknowledged_of, voiced_of, settled_of, adopted_of, raised_of, own_of, same_term_of, outdated, heard_of, merged_by, merge_of, blank, proposal_of}
 use Rattle.merges.specs.Sound.{Grew, Grown, MergesGrow, MergesKeepTerm, EmptyAdopts, NothingHeard, RedundantKeeps, ProposalTerm}
 use Rattle.packets.specs.declared.TwoPcPhase.{TwoPcPhase}
 use Rattle.packets.specs.declared.TwoPcPhase.TheVariants.{Prepare, Committed, Aborted}
 use Rattle.packets.specs.declared.CeTwoPcPacket.{CeTwoPcPacket}
-use Rattle.merges.specs.declared.merging.MergeResult.TheVariants.{Redundant, NewInfo}
 use Rattle.merges.specs.declared.merging.Held.{Held}
 use Rattle.merges.specs.declared.merging.Held.TheVariants.{Empty, Unreadable, Packet}
 use Rattle.merges.specs.declared.merging.Payload.{Payload}
-use Rattle.merges.specs.declared.merging.Merged.{Merged}
 use Rattle.merges.proofs.Safety.{either_cases}
 
 -- the same term, no lower phase

@@ -3,6 +3,7 @@
 use Rattle.std.proofs.Common.{◌≡◌, ℕ, true, ltb, refl}
 use Rattle.marks.specs.Marks.{has}
 use Rattle.merges.specs.Merging.{
+  Merged,
   Draft,
   Noes,
   unanimous_of,
@@ -26,7 +27,6 @@ use Rattle.packets.specs.declared.CeTwoPcPacket.{CeTwoPcPacket}
 use Rattle.merges.specs.declared.merging.Held.{Held}
 use Rattle.merges.specs.declared.merging.Held.TheVariants.{Empty, Unreadable, Packet}
 use Rattle.merges.specs.declared.merging.Payload.{Payload}
-use Rattle.merges.specs.declared.merging.Merged.{Merged}
 use Rattle.merges.proofs.Safety.{either_cases}
 
 module _

@@ -1,5 +1,6 @@
 pub mod Bitmaps
 pub mod Phases
+pub mod Ranges
 pub mod Slips
 pub mod Sources
 pub mod Safety

@@ -3,16 +3,14 @@
 use Rattle.std.proofs.Common.{◌≡◌, ℕ, ◌<◌, ◌≤◌, Bool, true, false, ◌&&◌, ◌||◌, eqb, ltb, ◌⊎◌, refl, ◌∙◌, inl, inr, arith, lt-ltb, eq-eqb}
 use Rattle.marks.specs.Marks.{has, marks}
 use Rattle.marks.specs.Sets.{true_and}
-use Rattle.merges.specs.Merging.{Draft, Noes, entry, filled_of, marked_of, only_of, join_of, unanimous_of, rank_of, ensure_of, decided_of, acknowledged_of, voiced_of, settled_of, adopted_of, raised_of, own_of, same_term_of, outdated, heard_of, merged_by, merge_of}
+use Rattle.merges.specs.Merging.{NewInfo, Merged, Draft, Noes, entry, filled_of, marked_of, only_of, join_of, unanimous_of, rank_of, ensure_of, decided_of, acknowledged_of, voiced_of, settled_of, adopted_of, raised_of, own_of, same_term_of, outdated, heard_of, merged_by, merge_of}
 use Rattle.merges.specs.Sound.{MarksFrom, OwnMark}
 use Rattle.packets.specs.declared.TwoPcPhase.{TwoPcPhase}
 use Rattle.packets.specs.declared.TwoPcPhase.TheVariants.{Prepare, Committed, Aborted}
 use Rattle.packets.specs.declared.CeTwoPcPacket.{CeTwoPcPacket}
-use Rattle.merges.specs.declared.merging.MergeResult.TheVariants.{NewInfo}
 use Rattle.merges.specs.declared.merging.Held.{Held}
 use Rattle.merges.specs.declared.merging.Held.TheVariants.{Empty, Unreadable, Packet}
 use Rattle.merges.specs.declared.merging.Payload.{Payload}
-use Rattle.merges.specs.declared.merging.Merged.{Merged}
 use Rattle.merges.proofs.Bitmaps.{has_word}
 use Rattle.merges.proofs.Growth.{told_apart}
 use Rattle.merges.proofs.Kept.{merge_keeps}

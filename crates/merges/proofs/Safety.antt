@@ -7,7 +7,7 @@ use Rattle.marks.specs.Marks.{has, marks, all_of}
 use Rattle.marks.specs.Laws.{has_none}
 use Rattle.marks.specs.Sets.{has_marks, and_true, true_and, all_at}
 use Rattle.loops.specs.Wrap.{add64}
-use Rattle.merges.specs.Merging.{Draft, Noes, entry, filled_of, marked_of, only_of, join_of, unanimous_of, rank_of, ensure_of, decided_of, acknowledged_of, voiced_of, settled_of, adopted_of, raised_of, own_of, same_term_of, outdated, heard_of, merged_by, merge_of, blank, proposal_of}
+use Rattle.merges.specs.Merging.{Merged, Draft, Noes, entry, filled_of, marked_of, only_of, join_of, unanimous_of, rank_of, ensure_of, decided_of, acknowledged_of, voiced_of, settled_of, adopted_of, raised_of, own_of, same_term_of, outdated, heard_of, merged_by, merge_of, blank, proposal_of}
 use Rattle.merges.specs.Sound.{AllYes, SomeNo, Backed, Claim, Sound, SoundBy, SoundHeld, MergesSound, ProposesSound, NeverBoth}
 use Rattle.packets.specs.declared.TwoPcPhase.{TwoPcPhase}
 use Rattle.packets.specs.declared.TwoPcPhase.TheVariants.{Prepare, Committed, Aborted}
@@ -16,7 +16,6 @@ use Rattle.packets.specs.declared.CeTwoPcPacket.{CeTwoPcPacket}
 use Rattle.merges.specs.declared.merging.Held.{Held}
 use Rattle.merges.specs.declared.merging.Held.TheVariants.{Empty, Unreadable, Packet}
 use Rattle.merges.specs.declared.merging.Payload.{Payload}
-use Rattle.merges.specs.declared.merging.Merged.{Merged}
 
 -- a choice has what both of its ends have, each with what the test says
 pub either_cases : {A : Type 0} (P : A → Type 0) (b : Bool) {x y : A} → (b ≡ true → P x) → (b ≡ false → P y) → P (either b x y)

@@ -1,12 +1,11 @@
 -- The steps of a merge on slips put together: where each step says what its rule says of the packets, so does the whole.
 -- Assumes nothing.
-use Rattle.std.proofs.Common.{◌≡◌, ℕ, true, false, ltb, sym, refl, ap, ◌∙◌}
+use Rattle.std.proofs.Common.{◌≡◌, ℕ, Option, true, false, ltb, sym, refl, ap, ◌∙◌}
 use Rattle.packets.specs.declared.Data.{Data}
 use Rattle.packets.specs.declared.CeTwoPcPacket.{CeTwoPcPacket}
 use Rattle.merges.specs.declared.merging.Held.TheVariants.{Packet}
 use Rattle.merges.specs.declared.merging.Payload.{Payload}
 use Rattle.merges.specs.declared.merging.Slip.{Slip}
-use Rattle.merges.specs.declared.merging.Draft as slips
 use Rattle.merges.specs.Slips.{packet_of, whose, answered, HeardBy}
 use Rattle.merges.specs.Merging.{
   Draft,
@@ -44,7 +43,7 @@ module _ (nay : Noes) (n v : ℕ) where
       rw (higher, lower) (ap (concluded l) (ap (λ (s : CeTwoPcPacket). same_term_of nay n v s q) e ∙ sym f))
 
   -- the slips of two packets say what the packets say
-  pub heard_packets : (l : Payload) (p : CeTwoPcPacket) (a b : Slip) (x : slips.Draft)
+  pub heard_packets : (l : Payload) (p : CeTwoPcPacket) (a b : Slip) (x : Option Slip)
       → ((d : ℕ → Data) → d 0 ≡ l.packet.proposal_data → packet_of d a ≡ l.packet)
       → ((d : ℕ → Data) → d 1 ≡ p.proposal_data → packet_of d b ≡ p)
       → HeardBy nay n v l.held a b x

@@ -1,5 +1,5 @@
 -- The data of a merge's answer are those of one of the two packets that met. Assumes nothing.
-use Rattle.std.proofs.Common.{◌≡◌, ℕ, Bool, true, false, eqb, ltb, ◌⊎◌, [], sym, refl, ap, ◌∙◌, inl, inr, true≢false}
+use Rattle.std.proofs.Common.{◌≡◌, ℕ, Option, Some, None, Bool, true, false, eqb, ltb, ◌⊎◌, [], sym, refl, ap, ◌∙◌, inl, inr, true≢false}
 use Rattle.loops.specs.Pick.{either}
 use Rattle.marks.specs.Marks.{has}
 use Rattle.packets.specs.declared.Data.{Data}
@@ -9,13 +9,9 @@ use Rattle.packets.specs.declared.TwoPcPhase.TheVariants.{Prepare, Committed, Ab
 use Rattle.merges.specs.declared.merging.Held.{Held}
 use Rattle.merges.specs.declared.merging.Held.TheVariants.{Empty, Unreadable, Packet}
 use Rattle.merges.specs.declared.merging.Payload.{Payload}
-use Rattle.merges.specs.declared.merging.Merged.{Merged}
-use Rattle.merges.specs.declared.merging.MergeResult.{MergeResult}
-use Rattle.merges.specs.declared.merging.MergeResult.TheVariants.{Redundant, NewInfo}
 use Rattle.merges.specs.declared.merging.Slip.{Slip}
-use Rattle.merges.specs.declared.merging.Draft as slips
-use Rattle.merges.specs.Slips.{packet_of, HeardBy}
-use Rattle.merges.specs.Merging.{Draft, Noes, rank_of, ensure_of, decided_of, acknowledged_of, voiced_of, settled_of, adopted_of, raised_of, own_of, same_term_of, new_info, redundant, outdated, unanimous_of, heard_of}
+use Rattle.merges.specs.Slips.{packet_of, answered, HeardBy}
+use Rattle.merges.specs.Merging.{MergeResult, Redundant, NewInfo, Merged, Draft, Noes, rank_of, ensure_of, decided_of, acknowledged_of, voiced_of, settled_of, adopted_of, raised_of, own_of, same_term_of, outdated, unanimous_of, heard_of}
 
 abbrev data_of : CeTwoPcPacket → Data
 data_of p = p.proposal_data
@@ -83,36 +79,26 @@ module _ (nay : Noes) (n v : ℕ) where
   abbrev labels : ℕ → Data
   labels k = record { len = k; bytes = [] }
 
-  pub heard_source : (held : Held) (local received : Slip) (r : slips.Draft) → HeardBy nay n v held local received r
-      → (r.slip.source ≡ local.source) ⊎ (r.slip.source ≡ received.source)
-  heard_source held local received r h = by r.news refl
+  pub heard_source : (held : Held) (local received s : Slip) → HeardBy nay n v held local received (Some s)
+      → (s.source ≡ local.source) ⊎ (s.source ≡ received.source)
+  heard_source held local received s h = from (heard_data l (packet_of labels received) held)
     where
       l : Payload
       l = record { held = held; packet = packet_of labels local }
 
-      told : (b : Bool) → r.news ≡ b → heard_of nay n v l (packet_of labels received) held ≡ either b (new_info (packet_of labels r.slip)) (redundant l)
-      told b e = h.merged labels l refl (λ _. refl) ∙ ap (λ (t : Bool). either t (new_info (packet_of labels r.slip)) (redundant l)) e
+      label : s.source ≡ (heard_of nay n v l (packet_of labels received) held).payload.packet.proposal_data.len
+      label = ap (λ (m : Merged). m.payload.packet.proposal_data.len) (sym (h.merged labels l refl (λ _. refl)))
 
-      by : (b : Bool) → r.news ≡ b → (r.slip.source ≡ local.source) ⊎ (r.slip.source ≡ received.source)
-      by false e = inl (ap (λ (s : Slip). s.source) (h.kept e))
-      by true e = from (heard_data l (packet_of labels received) held)
-        where
-          label : r.slip.source ≡ (heard_of nay n v l (packet_of labels received) held).payload.packet.proposal_data.len
-          label = ap (λ (m : Merged). m.payload.packet.proposal_data.len) (sym (told true e))
-
-          from : From l (packet_of labels received) (heard_of nay n v l (packet_of labels received) held) → (r.slip.source ≡ local.source) ⊎ (r.slip.source ≡ received.source)
-          from (inl q) = inl (label ∙ ap (λ (d : Data). d.len) q)
-          from (inr q) = inr (label ∙ ap (λ (d : Data). d.len) q)
+      from : From l (packet_of labels received) (heard_of nay n v l (packet_of labels received) held) → (s.source ≡ local.source) ⊎ (s.source ≡ received.source)
+      from (inl q) = inl (label ∙ ap (λ (d : Data). d.len) q)
+      from (inr q) = inr (label ∙ ap (λ (d : Data). d.len) q)
 
   -- an answer is the only one
-  pub heard_one : (held : Held) (local received : Slip) (r s : slips.Draft) → HeardBy nay n v held local received r → HeardBy nay n v held local received s → r ≡ s
-  heard_one held local received r s h k = by r.news refl s.news refl
+  pub heard_one : (held : Held) (local received : Slip) (r s : Option Slip) → HeardBy nay n v held local received r → HeardBy nay n v held local received s → r ≡ s
+  heard_one held local received r s h k = by r s (sym (h.merged labels l refl (λ _. refl)) ∙ k.merged labels l refl (λ _. refl))
     where
       l : Payload
       l = record { held = held; packet = packet_of labels local }
-
-      same : either r.news (new_info (packet_of labels r.slip)) (redundant l) ≡ either s.news (new_info (packet_of labels s.slip)) (redundant l)
-      same = sym (h.merged labels l refl (λ _. refl)) ∙ k.merged labels l refl (λ _. refl)
 
       -- a slip by the packet that it stands for
       slip_of : CeTwoPcPacket → Slip
@@ -125,11 +111,8 @@ module _ (nay : Noes) (n v : ℕ) where
           is Redundant = false
           is NewInfo = true
 
-      told : (a b : Bool) → r.news ≡ a → s.news ≡ b → either {A = Merged} a (new_info (packet_of labels r.slip)) (redundant l) ≡ either b (new_info (packet_of labels s.slip)) (redundant l)
-      told a b e f = ap (λ (t : Bool). either t (new_info (packet_of labels r.slip)) (redundant l)) (sym e) ∙ same ∙ ap (λ (t : Bool). either t (new_info (packet_of labels s.slip)) (redundant l)) f
-
-      by : (a : Bool) → r.news ≡ a → (b : Bool) → s.news ≡ b → r ≡ s
-      by true e true f = rw (ap (λ (m : Merged). slip_of m.payload.packet) (told true true e f), e, f)
-      by true e false f = absurd (true≢false (ap new (told true false e f)))
-      by false e true f = absurd (true≢false (sym (ap new (told false true e f))))
-      by false e false f = rw (h.kept e, k.kept f, e, f)
+      by : (r s : Option Slip) → answered labels l r ≡ answered labels l s → r ≡ s
+      by (Some a) (Some b) e = ap (λ (m : Merged). Some (slip_of m.payload.packet)) e
+      by (Some a) None e = absurd (true≢false (ap new e))
+      by None (Some b) e = absurd (true≢false (sym (ap new e)))
+      by None None e = refl

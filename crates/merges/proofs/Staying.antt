@@ -3,7 +3,7 @@
 use Rattle.std.proofs.Common.{◌≡◌, ℕ, ◌<◌, ◌≤◌, max, Bool, true, ◌&&◌, ◌||◌, eqb, ltb, sym, refl, ap, ◌∙◌, le_antisymm, arith, ltb-true, lt-ltb}
 use Rattle.marks.specs.Marks.{has, marks}
 use Rattle.marks.specs.Sets.{and_true, true_and}
-use Rattle.merges.specs.Merging.{Draft, Noes, entry, filled_of, marked_of, join_of, unanimous_of, rank_of, ensure_of, decided_of, acknowledged_of, voiced_of, settled_of, raised_of, own_of, same_term_of, outdated, heard_of, merged_by, merge_of}
+use Rattle.merges.specs.Merging.{Merged, Draft, Noes, entry, filled_of, marked_of, join_of, unanimous_of, rank_of, ensure_of, decided_of, acknowledged_of, voiced_of, settled_of, raised_of, own_of, same_term_of, outdated, heard_of, merged_by, merge_of}
 use Rattle.merges.specs.Sound.{MarksStay}
 use Rattle.packets.specs.declared.TwoPcPhase.{TwoPcPhase}
 use Rattle.packets.specs.declared.TwoPcPhase.TheVariants.{Prepare, Committed, Aborted}
@@ -12,7 +12,6 @@ use Rattle.packets.specs.declared.CeTwoPcPacket.{CeTwoPcPacket}
 use Rattle.merges.specs.declared.merging.Held.{Held}
 use Rattle.merges.specs.declared.merging.Held.TheVariants.{Empty, Unreadable, Packet}
 use Rattle.merges.specs.declared.merging.Payload.{Payload}
-use Rattle.merges.specs.declared.merging.Merged.{Merged}
 use Rattle.merges.proofs.Bitmaps.{has_word}
 use Rattle.merges.proofs.Safety.{either_cases}
 use Rattle.merges.proofs.Growth.{Rose, rose_trans, settled_rose, ensure_rose, adopted_rose, raised_rose, own_rose}

@@ -3,7 +3,7 @@
 -- length, and true if the word has mark i. So an entry from 64 on is false and stays so, and the rules hold for every
 -- n, position and length. Every bitmap made here has no mark at or behind its length. Assumes nothing: these are
 -- definitions.
-use Rattle.std.specs.Prelude.{ℕ, ◌+◌, max, Bool, true, false, not, ◌&&◌, ◌||◌, List, [], ◌==◌, nat_eq, nat_le, nat_lt, slice_index_or, replicate, Result, Ok, Err}
+use Rattle.std.specs.Prelude.{Option, Some, None, ℕ, ◌+◌, max, Bool, true, false, not, ◌&&◌, ◌||◌, List, [], ◌==◌, nat_eq, nat_le, nat_lt, slice_index_or, replicate, Result, Ok, Err}
 use Rattle.limits.specs.Limits.{positions}
 use Rattle.limits.specs.declared.refusals.Refusal.{Refusal}
 use Rattle.loops.specs.Pick.{either}
@@ -15,13 +15,11 @@ use Rattle.packets.specs.declared.TwoPcPhase.{TwoPcPhase}
 use Rattle.packets.specs.declared.TwoPcPhase.TheVariants.{Prepare, Committed, Aborted}
 use Rattle.packets.specs.declared.Bitmap.{Bitmap}
 use Rattle.packets.specs.declared.CeTwoPcPacket.{CeTwoPcPacket}
-use Rattle.merges.specs.declared.merging.MergeResult.TheVariants.{Redundant, NewInfo}
 use Rattle.merges.specs.declared.merging.ProposalOutcome.{ProposalOutcome}
 use Rattle.merges.specs.declared.merging.ProposalOutcome.TheVariants as outcome
 use Rattle.merges.specs.declared.merging.Held.{Held}
 use Rattle.merges.specs.declared.merging.Held.TheVariants.{Empty, Unreadable, Packet}
 use Rattle.merges.specs.declared.merging.Payload.{Payload}
-use Rattle.merges.specs.declared.merging.Merged.{Merged}
 
 -- who votes no: `nay t i` is true where position i does in term t. Every rule here holds for any such votes; those of
 -- a room are `no_of` its settings
@@ -125,12 +123,26 @@ same_term_of nay n v l r = settled n v (own_of nay n v (raised_of n (ensure_of n
 
 -- ---- the merge, in the order of RULES 6.2
 
+-- what a merge says: whether anything was new, and what is held from now on
+pub data MergeResult : Type 0 where
+  Redundant : MergeResult
+  NewInfo : MergeResult
+
+pub record Merged : Type 0 where
+  pub result : MergeResult
+  pub payload : Payload
+
 -- nothing new: what is held goes back as it came
 abbrev pub redundant : Payload → Merged
 redundant l = record { result = Redundant; payload = l }
 
 abbrev pub new_info : CeTwoPcPacket → Merged
 new_info p = record { result = NewInfo; payload = record { held = Packet; packet = p } }
+
+-- the code says what is new, a packet, or that nothing is
+abbrev pub news_or : Payload → Option CeTwoPcPacket → Merged
+news_or l None = redundant l
+news_or l (Some p) = new_info p
 
 abbrev pub concluded : Payload → Draft → Merged
 concluded l d = either d.news (new_info d.packet) (redundant l)
@@ -227,3 +239,9 @@ any_holds n k ls = nat_le n positions && any_of n (λ i. nat_eq (standing_of (sl
 -- One abort is enough, a commit takes everybody; all else was not decided in time.
 unfoldable pub outcome_of : ℕ → List Payload → ProposalOutcome
 outcome_of n ls = either (any_holds n 3 ls) outcome.Aborted (either (all_hold n 2 ls) outcome.Committed outcome.TimedOut)
+
+-- the outcomes' numbers for C: those of the phases of these names, and 3 for what no phase is called
+abbrev pub outcome_number : ProposalOutcome → ℕ
+outcome_number outcome.Committed = 1
+outcome_number outcome.Aborted = 2
+outcome_number outcome.TimedOut = 3

@@ -6,12 +6,11 @@ use Rattle.limits.specs.Limits.{positions}
 use Rattle.loops.specs.Pick.{either}
 use Rattle.packets.specs.Packets.{ValidCe}
 use Rattle.loops.specs.Wrap.{add64}
-use Rattle.merges.specs.Merging.{Noes, entry, only_of, rank_of, with_state, adopted_of, new_info, merge_of, blank, proposal_of}
+use Rattle.merges.specs.Merging.{Redundant, NewInfo, Noes, entry, only_of, rank_of, with_state, adopted_of, new_info, merge_of, blank, proposal_of}
 use Rattle.packets.specs.declared.TwoPcPhase.{TwoPcPhase}
 use Rattle.packets.specs.declared.TwoPcPhase.TheVariants.{Prepare, Committed, Aborted}
 use Rattle.packets.specs.declared.Bitmap.{Bitmap}
 use Rattle.packets.specs.declared.CeTwoPcPacket.{CeTwoPcPacket}
-use Rattle.merges.specs.declared.merging.MergeResult.TheVariants.{Redundant, NewInfo}
 use Rattle.merges.specs.declared.merging.Held.{Held}
 use Rattle.merges.specs.declared.merging.Held.TheVariants.{Empty, Unreadable, Packet}
 use Rattle.merges.specs.declared.merging.Payload.{Payload}

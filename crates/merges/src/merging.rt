@@ -2,9 +2,10 @@
 // of two_pc_ce.rs, on packets by value. A merge is computed on slips, so that it does not carry the data's 32 bytes
 // through every step.
 ghost use Rattle.std.specs.Prelude.{◌≡◌, ℕ, ◌+◌, ◌&&◌, nat_lt, eqb};
+ghost use Rattle.std.specs.List.{list_all, list_any};
 ghost use Rattle.marks.specs.Marks.{has, marks};
 ghost use Rattle.merges.specs.Votes.{no_of};
-ghost use Rattle.merges.specs.Merging.{entry, filled_of, marked_of, only_of, join_of, join_news, unanimous_of, rank_of, ensure_of, decided_of, acknowledged_of, voiced_of, settled, adopted_of, raised_of, own_of, same_term_of, redundant, new_info, outdated, heard_of, merge_of, blank, proposal_of, standing_of, goal_of, can_sleep_of, all_hold, any_holds, outcome_of};
+ghost use Rattle.merges.specs.Merging.{entry, filled_of, marked_of, only_of, join_of, join_news, unanimous_of, rank_of, ensure_of, decided_of, acknowledged_of, voiced_of, settled, adopted_of, raised_of, own_of, same_term_of, news_or, without, outdated, heard_of, merge_of, blank, proposal_of, standing_of, goal_of, can_sleep_of, all_hold, any_holds, outcome_of, outcome_number};
 ghost use Rattle.merges.specs.Slips.{packet_of, draft_of, whose, HeardBy};
 ghost use Rattle.merges.specs.declared.merging.Held.TheVariants.{Packet};
 ghost use Rattle.packets.specs.Packets.{proposal_data};
@@ -18,16 +19,19 @@ use packets::{Bitmap, CeTwoPcPacket, Data, TwoPcPhase, two_pc_ce};
 use std::cmp::Ordering;
 
 #[derive(Clone, Copy)]
-pub enum MergeResult {
-    Redundant,
-    NewInfo,
+pub enum ProposalOutcome {
+    Committed = 1,
+    Aborted = 2,
+    TimedOut = 3,
 }
 
-#[derive(Clone, Copy)]
-pub enum ProposalOutcome {
-    Committed,
-    Aborted,
-    TimedOut,
+// Each outcome's number for C: that of the phase of its name, and 3.
+impl From<ProposalOutcome> for u64 {
+    ghost from_gives = { λ o n. n ≡ outcome_number o };
+
+    fn from(outcome: ProposalOutcome) -> u64 {
+        outcome as u64
+    }
 }
 
 // What a payload is: nothing, a text that is no packet, or a packet.
@@ -38,17 +42,12 @@ pub enum Held {
     Packet,
 }
 
-// The packet counts only where `held` says that there is one: an enum may not hold it, since it holds an array.
+// The packet counts only where `held` says that there is one. No enum with the packet in it: C's lists have the numbers
+// of a packet behind every payload, and what stands there behind one that is none goes back to C as it came.
 #[derive(Clone, Copy)]
 pub struct Payload {
     pub held: Held,
     pub packet: CeTwoPcPacket,
-}
-
-#[derive(Clone, Copy)]
-pub struct Merged {
-    pub result: MergeResult,
-    pub payload: Payload,
 }
 
 // A packet without its data, which a merge never looks at: `source` says whose data it has.
@@ -179,6 +178,8 @@ fn acknowledge(s: Slip, node_id: usize) -> Slip
 }
 
 // The own entry: in Prepare the vote, later that the decision is known here.
+// Here and below `voting` and `node_id` stay apart: a caller has one Voting for a whole room, and takes its positions
+// one after the other. A struct of both would be made anew at each call, and each rule asks for its parts one by one.
 #[tactic(auto, unfolding(crate::specs::Merging::voiced_of))]
 fn voice(voting: Voting, s: Slip, node_id: usize) -> Slip
     ensures { (d : ℕ → Data) → packet_of d result ≡ voiced_of (no_of voting) voting.n node_id (packet_of d s) s.phase }
@@ -283,68 +284,49 @@ fn is_outdated(term: u64, held: u64) -> bool
 }
 
 // Two packets meet: the higher term is adopted, the lower left.
-fn hear_packet(voting: Voting, local: Slip, received: Slip, node_id: usize) -> Draft
+fn hear_packet(voting: Voting, local: Slip, received: Slip, node_id: usize) -> Option<Slip>
     ensures { HeardBy (no_of voting) voting.n node_id Packet local received result }
 {
     if local.term < received.term {
-        let slip = adopt_with_local_vote(voting, received, node_id);
-        return Draft { slip, news: true };
+        return Some(adopt_with_local_vote(voting, received, node_id));
     }
     if is_outdated(received.term, local.term) {
-        return Draft {
-            slip: local,
-            news: false,
-        };
+        return None;
     }
     let x = merge_same_term(voting, local, received, node_id);
-    if x.news {
-        return x;
-    }
-    Draft {
-        slip: local,
-        news: false,
-    }
+    if x.news { Some(x.slip) } else { None }
 }
 
-// What position node_id makes of a packet, by what it holds: an empty one takes it. What is no news leaves the local
-// as it came, a short bitmap too.
+// What is new to position node_id in a packet, by what it holds: an empty one takes it. Without news the local stays as
+// it came, a short bitmap too.
 #[tactic(auto, unfolding(crate::specs::Merging::heard_of))]
-pub fn hear(voting: Voting, held: Held, local: Slip, received: Slip, node_id: usize) -> Draft
+pub fn hear(voting: Voting, held: Held, local: Slip, received: Slip, node_id: usize) -> Option<Slip>
     ensures { HeardBy (no_of voting) voting.n node_id held local received result }
 {
     match held {
-        Held::Empty => {
-            let slip = adopt_with_local_vote(voting, received, node_id);
-            Draft { slip, news: true }
-        }
-        Held::Unreadable => Draft {
-            slip: local,
-            news: false,
-        },
+        Held::Empty => Some(adopt_with_local_vote(voting, received, node_id)),
+        Held::Unreadable => None,
         Held::Packet => hear_packet(voting, local, received, node_id),
     }
 }
 
-// The local payload goes back as it came, a short bitmap too.
-fn redundant_merge(local: Payload) -> Merged
-    ensures { result ≡ redundant local }
-{
-    Merged {
-        result: MergeResult::Redundant,
-        payload: local,
-    }
-}
-
-fn new_info(packet: CeTwoPcPacket) -> Merged
-    ensures { result ≡ new_info packet }
-{
-    let payload = Payload {
-        held: Held::Packet,
-        packet,
-    };
-    Merged {
-        result: MergeResult::NewInfo,
-        payload,
+impl Payload {
+    // What is no packet: one of zeros in its place.
+    pub fn without(held: Held) -> Payload
+        ensures { result ≡ without held }
+    {
+        Payload {
+            held,
+            packet: CeTwoPcPacket {
+                term: 0,
+                phase: TwoPcPhase::Prepare,
+                proposal_data: Data {
+                    len: 0,
+                    bytes: [0u8; 32],
+                },
+                flags_bitmap: Bitmap { len: 0, marks: 0 },
+            },
+        }
     }
 }
 
@@ -362,7 +344,7 @@ impl Slip {
     }
 
     // A packet again.
-    fn with_data(self, proposal_data: Data) -> CeTwoPcPacket
+    pub fn with_data(self, proposal_data: Data) -> CeTwoPcPacket
         ensures { result ≡ packet_of (λ _. proposal_data) self }
     {
         CeTwoPcPacket {
@@ -381,25 +363,33 @@ fn data_of(source: u64, ours: Data, theirs: Data) -> Data
 }
 
 // A packet was received. The data stays out of the merge: the local's is number 0, the received one number 1.
-fn merge_packet(voting: Voting, local: Payload, p: CeTwoPcPacket, node_id: usize) -> Merged
-    ensures { result ≡ heard_of (no_of voting) voting.n node_id local p local.held }
+fn merge_packet(
+    voting: Voting,
+    local: Payload,
+    p: CeTwoPcPacket,
+    node_id: usize,
+) -> Option<CeTwoPcPacket>
+    ensures { news_or local result ≡ heard_of (no_of voting) voting.n node_id local p local.held }
 {
     let l = local.packet;
-    let x = hear(voting, local.held, Slip::of(l, 0), Slip::of(p, 1), node_id);
-    if !x.news {
-        return redundant_merge(local);
-    }
-    let data = data_of(x.slip.source, l.proposal_data, p.proposal_data);
-    new_info(x.slip.with_data(data))
+    let slip = hear(voting, local.held, Slip::of(l, 0), Slip::of(p, 1), node_id)?;
+    let data = data_of(slip.source, l.proposal_data, p.proposal_data);
+    Some(slip.with_data(data))
 }
 
-// What position node_id holds after a received payload, and whether that was news.
+// The packet that position node_id holds after a received payload, if that was news: without news the local payload
+// stays as it came. In the Rust these are NewInfo and Redundant, and the local payload is changed in place.
 #[tactic(auto, unfolding(crate::specs::Merging::merge_of, crate::specs::Merging::merged_by))]
-pub fn merge(voting: Voting, local: Payload, received: Payload, node_id: usize) -> Merged
-    ensures { result ≡ merge_of (no_of voting) voting.n node_id local received }
+pub fn merge(
+    voting: Voting,
+    local: Payload,
+    received: Payload,
+    node_id: usize,
+) -> Option<CeTwoPcPacket>
+    ensures { news_or local result ≡ merge_of (no_of voting) voting.n node_id local received }
 {
     match received.held {
-        Held::Empty | Held::Unreadable => redundant_merge(local),
+        Held::Empty | Held::Unreadable => None,
         Held::Packet => merge_packet(voting, local, received.packet, node_id),
     }
 }
@@ -455,36 +445,37 @@ pub fn node_can_sleep(n: usize, payload: Payload) -> bool
 }
 
 // Every one of the first n positions holds a packet of this phase, and there is one at least.
+#[tactic(auto, unfolding(crate::specs::Merging::all_hold))]
 fn all_hold(payloads: &[Payload; 64], n: usize, phase: TwoPcPhase) -> bool
     ensures { result ≡ all_hold n (rank_of phase + 1) payloads.now }
 {
-    if n == 0 {
+    if n == 0 || n > limits::POSITIONS {
         return false;
     }
-    if n > limits::POSITIONS {
-        return false;
-    }
-    for i in 0..n {
-        if !holds(&payloads[i], phase) {
-            return false;
-        }
-    }
-    true
+    every(&payloads[..n], phase)
+}
+
+fn every(payloads: &[Payload], phase: TwoPcPhase) -> bool
+    ensures { result ≡ list_all (λ l. eqb (standing_of l) (rank_of phase + 1)) payloads.now }
+{
+    payloads.iter().all(|l| holds(l, phase))
 }
 
 // One of the first n positions holds a packet of this phase.
+#[tactic(auto, unfolding(crate::specs::Merging::any_holds))]
 fn any_holds(payloads: &[Payload; 64], n: usize, phase: TwoPcPhase) -> bool
     ensures { result ≡ any_holds n (rank_of phase + 1) payloads.now }
 {
     if n > limits::POSITIONS {
         return false;
     }
-    for i in 0..n {
-        if holds(&payloads[i], phase) {
-            return true;
-        }
-    }
-    false
+    some(&payloads[..n], phase)
+}
+
+fn some(payloads: &[Payload], phase: TwoPcPhase) -> bool
+    ensures { result ≡ list_any (λ l. eqb (standing_of l) (rank_of phase + 1)) payloads.now }
+{
+    payloads.iter().any(|l| holds(l, phase))
 }
 
 // An abort at one position is an abort, whatever the others hold; what not everybody has committed by then timed out.

@@ -95,19 +95,11 @@ impl Field for TwoPcPhase {
     ghost found = { phase_at };
 
     fn text_len(self) -> usize {
-        match self {
-            TwoPcPhase::Prepare => 9,
-            TwoPcPhase::Committed => 11,
-            TwoPcPhase::Aborted => 9,
-        }
+        self.text().len()
     }
 
     fn put(self, w: &mut Writer) {
-        match self {
-            TwoPcPhase::Prepare => w.all(b"\"Prepare\""),
-            TwoPcPhase::Committed => w.all(b"\"Committed\""),
-            TwoPcPhase::Aborted => w.all(b"\"Aborted\""),
-        }
+        w.all(self.text())
     }
 
     fn read(s: &[u8], at: usize) -> Option<(TwoPcPhase, usize)> {

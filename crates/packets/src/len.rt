@@ -31,6 +31,7 @@ pub(crate) fn bitmap_len(b: Bitmap) -> usize
     1 + 6 * b.len - sets::count_marks(there)
 }
 
+// A byte has at most three digits, by which 32 bytes stay within 129. decimal_len says 20, of any number.
 fn small_len(b: u8) -> usize
     ensures { (result ≡ length (decimal b)) × (result ≤ 3) }
 {
@@ -64,7 +65,8 @@ pub(crate) fn data_len(d: Data) -> usize
     bytes_len(&bytes[..d.len])
 }
 
-// The length of the data's text, 0 for data of too many bytes, which has none.
+// The length of the data's text, 0 for data of too many bytes, which has none. A number and no Option: the capture
+// board keeps it in its table of numbers, where 0 says the same.
 #[tactic(auto, unfolding(crate::specs::Writing::data_len))]
 pub fn data_text_len(d: Data) -> usize
     ensures { (result ≡ data_len d) × (result ≤ 129) }

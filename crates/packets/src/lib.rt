@@ -2,6 +2,9 @@
 // two_pc_ce.rs and two_pc_pipeline.rs.
 #![tactic(auto)]
 
+ghost use Rattle.std.specs.Prelude.{◌≡◌};
+ghost use Rattle.packets.specs.Packets.{phase_text};
+
 mod field;
 pub mod len;
 mod put;
@@ -17,15 +20,28 @@ pub enum TwoPcPhase {
     Aborted = 2,
 }
 
-// The first len marks of a word: mark i is bit i. Nothing is put on the heap here, so what has a length stands in fixed
-// memory with the length beside it, in this and in Data.
+impl TwoPcPhase {
+    // Its name in quotation marks.
+    fn text(self) -> &'static [u8]
+        ensures { result.now ≡ phase_text self }
+    {
+        match self {
+            TwoPcPhase::Prepare => b"\"Prepare\"",
+            TwoPcPhase::Committed => b"\"Committed\"",
+            TwoPcPhase::Aborted => b"\"Aborted\"",
+        }
+    }
+}
+
+// The first len marks of a word: mark i is bit i.
 #[derive(Clone, Copy, Debug, PartialEq, Eq)]
 pub struct Bitmap {
     pub len: usize,
     pub marks: u64,
 }
 
-// The first len of 32 bytes.
+// The first len of 32 bytes. No ArrayVec, which is not Copy, while packets are copied. And the type does not bound len:
+// C may state any. A longer one is refused where it counts, and behind the last position goes back to C as it came.
 #[derive(Clone, Copy)]
 pub struct Data {
     pub len: usize,

@@ -22,7 +22,8 @@ pub fn ce_parts_len(term: u64, phase: TwoPcPhase, data: usize, flags_bitmap: Bit
     51 + term.text_len() + phase.text_len() + data + flags_bitmap.text_len()
 }
 
-// The length of a packet's text, 0 for a packet outside the limits, which has none.
+// The length of a packet's text, 0 for a packet outside the limits, which has none. No Option here and above: lengths
+// are asked for to be added up, and what has no text adds no bytes.
 pub fn ce_text_len(p: CeTwoPcPacket) -> usize
     ensures { result ≡ text_len (ce_within p) (ce_text p) }
 {
@@ -86,10 +87,8 @@ fn read_ce(s: &[u8]) -> Option<CeTwoPcPacket>
 pub fn read_ce_packet(s: &[u8], len: usize) -> Result<CeTwoPcPacket, Refusal>
     ensures { result ≡ ce_read s.now len }
 {
-    if len > s.len() {
-        return Err(Refusal::NoFit);
-    }
-    read_ce(&s[..len]).ok_or(Refusal::BadPacket)
+    let text = s.get(..len).ok_or(Refusal::NoFit)?;
+    read_ce(text).ok_or(Refusal::BadPacket)
 }
 
 // A new proposal's data: "tx" and the term in decimal, 22 bytes at most.

@@ -27,7 +27,7 @@ fn pipeline_len(p: TwoPcPacket) -> usize
         + p.piggyback_state.text_len()
 }
 
-// The length of a packet's text, 0 for a packet outside the limits, which has none.
+// The length of a packet's text, 0 for a packet outside the limits, which has none and adds no bytes on the air.
 pub fn pipeline_text_len(p: TwoPcPacket) -> usize
     ensures { result ≡ text_len (pipeline_within p) (pipeline_text p) }
 {
@@ -105,8 +105,6 @@ fn read_pipeline(s: &[u8]) -> Option<TwoPcPacket>
 pub fn read_pipeline_packet(s: &[u8], len: usize) -> Result<TwoPcPacket, Refusal>
     ensures { result ≡ pipeline_read s.now len }
 {
-    if len > s.len() {
-        return Err(Refusal::NoFit);
-    }
-    read_pipeline(&s[..len]).ok_or(Refusal::BadPacket)
+    let text = s.get(..len).ok_or(Refusal::NoFit)?;
+    read_pipeline(text).ok_or(Refusal::BadPacket)
 }

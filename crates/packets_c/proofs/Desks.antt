@@ -10,9 +10,7 @@ use Rattle.packets.specs.Packets.{ce_text, ce_within}
 use Rattle.packets.specs.Writing.{wrote_of, left_of}
 use Rattle.packets_c.specs.Desk.{refusal_of, Desk, rewriting, rewritten, answered, desk_after, met, desk_of, RefusedLeaves}
 use Rattle.packets.specs.declared.CeTwoPcPacket.{CeTwoPcPacket}
-use Rattle.merges.specs.declared.merging.MergeResult.{MergeResult}
-use Rattle.merges.specs.declared.merging.MergeResult.TheVariants.{Redundant, NewInfo}
-use Rattle.merges.specs.declared.merging.Merged.{Merged}
+use Rattle.merges.specs.Merging.{MergeResult, Redundant, NewInfo, Merged}
 
 abbrev Leaves : List ℕ → ℕ → ℕ → Desk → Type 0
 Leaves local len was d = (d.refusal ≡ 0 → ⊥) → (d.text ≡ local) × (d.len ≡ len) × (d.news ≡ was)

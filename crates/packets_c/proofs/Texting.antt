@@ -27,17 +27,14 @@ use Rattle.packets.specs.Packets.{ce_text, ce_within, ValidCe}
 use Rattle.packets.specs.Reading.{ce_read, ce_read_of}
 use Rattle.packets.specs.Writing.{wrote_of, left_of}
 use Rattle.merges.specs.Votes.{no_of}
-use Rattle.merges.specs.Merging.{Noes, same_term_of, outdated, heard_of, merged_by, merge_of, read_as, payload_of, proposal_of}
+use Rattle.merges.specs.Merging.{MergeResult, Redundant, NewInfo, Merged, Noes, same_term_of, outdated, heard_of, merged_by, merge_of, read_as, payload_of, proposal_of}
 use Rattle.merges.specs.Sound.{ValidHeld}
 use Rattle.packets_c.specs.Desk.{refusal_of, Desk, rewriting, rewritten, answered, desk_after, desk_of, offered, propose_refusal, proposed_of, proposed_left, TextsFollow, ProposalFollows, CopyReads, AmpleMerges, AmpleProposes, Refusals}
 use Rattle.packets.specs.declared.CeTwoPcPacket.{CeTwoPcPacket}
 use Rattle.merges.specs.declared.votes.Voting.{Voting}
-use Rattle.merges.specs.declared.merging.MergeResult.{MergeResult}
-use Rattle.merges.specs.declared.merging.MergeResult.TheVariants.{Redundant, NewInfo}
 use Rattle.merges.specs.declared.merging.Held.{Held}
 use Rattle.merges.specs.declared.merging.Held.TheVariants.{Empty, Unreadable, Packet}
 use Rattle.merges.specs.declared.merging.Payload.{Payload}
-use Rattle.merges.specs.declared.merging.Merged.{Merged}
 use Rattle.packets.proofs.Promises.{ce_promises}
 use Rattle.merges.proofs.Safety.{either_cases}
 use Rattle.merges.proofs.Growth.{told_apart, redundant_keeps}

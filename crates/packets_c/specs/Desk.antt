@@ -11,13 +11,10 @@ use Rattle.packets.specs.Packets.{ce_text, ce_within}
 use Rattle.packets.specs.Writing.{wrote_of, left_of}
 use Rattle.packets_c.specs.Console.{asked_wrote, asked_left}
 use Rattle.merges.specs.Votes.{no_of}
-use Rattle.merges.specs.Merging.{merge_of, proposal_of, payload_of}
+use Rattle.merges.specs.Merging.{MergeResult, Redundant, NewInfo, Merged, merge_of, proposal_of, payload_of}
 use Rattle.packets.specs.declared.CeTwoPcPacket.{CeTwoPcPacket}
 use Rattle.merges.specs.declared.votes.Voting.{Voting}
-use Rattle.merges.specs.declared.merging.MergeResult.{MergeResult}
-use Rattle.merges.specs.declared.merging.MergeResult.TheVariants.{Redundant, NewInfo}
 use Rattle.merges.specs.declared.merging.Held.TheVariants.{Packet}
-use Rattle.merges.specs.declared.merging.Merged.{Merged}
 
 -- 2 for n outside 1 to 64, then 8 for a position that is none of them, then 10 for a stated length over its buffer
 unfoldable pub refusal_of : ℕ → ℕ → ℕ → ℕ → ℕ → ℕ → Result ⊤ Refusal

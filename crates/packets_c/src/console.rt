@@ -102,8 +102,9 @@ fn ce_asked(numbers: &[u64], bytes: &[u8]) -> Result<CeTwoPcPacket, Refusal>
     })
 }
 
-// What follows for the other family has the same four functions: a packet asked for, handed out, read and written. They
-// differ in each number's name and place, and a trait of both would name every such place once more.
+// Both families have the same functions: a packet's numbers, a packet asked for, and a text read and written. Those of
+// one family differ from the other's in each number's name and place, or in how many numbers there are, the reader or
+// the writer, and the name of the data: a generic one would be told all of that, and say no less than the two do.
 
 // 1 and any number, or 0 and 0.
 fn pair_fits(there: u64, n: u64) -> bool
@@ -122,7 +123,7 @@ fn piggyback_fits(tx_there: u64, tx: u64, state_there: u64, state: u64) -> bool
 fn there<T: Copy>(there: u64, value: T) -> Option<T>
     ensures { result ≡ either (eqb there 0) None (Some value) }
 {
-    if there == 0 { None } else { Some(value) }
+    (there != 0).then_some(value)
 }
 
 #[tactic(auto, unfolding(crate::specs::Console::pipeline_asked, crate::specs::Console::pipeline_fits))]
@@ -185,13 +186,7 @@ pub(crate) fn answered(wrote: Result<usize, Refusal>, next: &mut u64) -> u64
     ensures value { result ≡ answer_of wrote }
     ensures next_after { next.new ≡ next_of wrote next.old }
 {
-    match wrote {
-        Ok(place) => {
-            *next = place as u64;
-            0
-        }
-        Err(refusal) => u64::from(refusal),
-    }
+    refusals::tell(wrote.map(|place| place as u64), next)
 }
 
 #[tactic(auto, unfolding(crate::specs::Console::ce_told, crate::specs::Console::handed))]

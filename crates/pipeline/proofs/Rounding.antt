@@ -26,7 +26,7 @@ use Rattle.engines.specs.declared.network.Network.{Network}
 use Rattle.engines.specs.declared.node.Node.{Node}
 use Rattle.engines.specs.declared.node.StateSets.{StateSets}
 use Rattle.engines.specs.declared.metrics.MetricsCollector.{MetricsCollector}
-use Rattle.flood.specs.declared.flood.FloodSurvey.{FloodSurvey}
+use Rattle.engines.specs.declared.network.Survey.{Survey}
 use Rattle.flood.specs.declared.flood.FloodRun.{FloodRun}
 use Rattle.pipeline.specs.declared.two_pc_pipeline.NodeTwoPcState.{NodeTwoPcState}
 use Rattle.pipeline.specs.declared.two_pc_pipeline.RoundPacket.{RoundPacket}
@@ -46,7 +46,7 @@ module _ (ws : List ℕ) (conf : PipelineConf) (w : Network) (p : PipelinePart) 
   unfolding rows_of_round
   rows_same = rw (c, e, b, a)
 
-  pub run_whole : {x : FloodSurvey} → Some x ≡ flooded_of ws conf.round bytes start → {r : RoundRun} → r ≡ close_round ws conf p i prep x.run
+  pub run_whole : {x : Survey FloodRun} → Some x ≡ flooded_of ws conf.round bytes start → {r : RoundRun} → r ≡ close_round ws conf p i prep x.run
       → RoundSurveyed ws conf w p d r x.due
   unfolding run_round flood_of
   run_whole {x} v {r} g =

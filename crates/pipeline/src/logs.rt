@@ -17,7 +17,8 @@ pub fn logged(g: TxLog) -> u64
     m
 }
 
-// The outcome of the first entry with this transaction.
+// The outcome of the first entry with this transaction. (`find` and `is_some_and` are no plainer: two closures in the
+// place of one `if`.)
 #[tactic(auto, using(crate::proofs::Finding::outcome_first, crate::proofs::Finding::outcome_none))]
 pub fn outcome(g: TxLog, t: usize) -> bool
     ensures { result ≡ outcome_of g t }

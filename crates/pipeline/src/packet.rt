@@ -5,7 +5,8 @@ ghost use Rattle.pipeline.specs.Pipeline.{data_of, phase_of, piggyback_tx, piggy
 use super::two_pc_pipeline::{Outcome, RoundPacket};
 use packets::{Bitmap, Data, TwoPcPacket, TwoPcPhase};
 
-// The letters t and x, and the number.
+// The letters t and x, and the number: one digit below 10, else its last two, which are all of it below 100. (No call
+// of `packets`' writer: of a number as high as C may lend it writes all digits, and the text here has at most two.)
 pub fn data(fresh: bool, t: usize) -> Data
     ensures { result ≡ data_of fresh t }
 {
@@ -36,19 +37,13 @@ fn phase(committed: bool) -> TwoPcPhase
 fn piggyback_tx(p: Option<Outcome>) -> Option<u64>
     ensures { result ≡ piggyback_tx p }
 {
-    match p {
-        None => None,
-        Some(o) => Some(o.tx as u64),
-    }
+    p.map(|o| o.tx as u64)
 }
 
 fn piggyback_state(p: Option<Outcome>) -> Option<TwoPcPhase>
     ensures { result ≡ piggyback_state p }
 {
-    match p {
-        None => None,
-        Some(o) => Some(phase(o.committed)),
-    }
+    p.map(|o| phase(o.committed))
 }
 
 // The packet of n positions that is flooded.

@@ -6,12 +6,14 @@ ghost use Rattle.engines.specs.Marked.{over_marks, with_mark};
 ghost use Rattle.pipeline.specs.Pending.{join_marks, common_marks, without_mark, finalize_tx, unanimous_of, open_tx, votes_at, merge_votes, merge_abort, gap_of, nack_of, vote_of, is_judged, ripe_of, settle_at, judged, fast_of, abort_all, own_vote};
 
 use super::logs;
+use super::process::RoundFacts;
 use super::two_pc_pipeline::{NodeTwoPcState, Vote};
 use engines::words;
 use engines::words::Draw;
 use graph::sets;
 
-// The set operations, each as the set that its rule names.
+// The set operations, each as the set that its rule names: the contracts of `sets` say of each mark whether it is
+// there, and that two words with the same marks are one is shown here once, and not by each caller.
 pub fn with(m: u64, i: usize) -> u64
     ensures { result ≡ with_mark m i }
 {
@@ -68,6 +70,7 @@ pub fn check_unanimity(n: usize, s: NodeTwoPcState, t: usize) -> bool
     sets::all_marked(s.votes[t], n)
 }
 
+// (Reads as `put` in capture src/board.rt, and promises otherwise: see there.)
 fn mark_or_not(m: u64, i: usize, yes: bool) -> u64
     ensures { result ≡ either yes (with_mark m i) (without_mark m i) }
 {
@@ -200,13 +203,14 @@ impl Voter<'_> {
 
 // n rounds have passed since the start. Written so that no sum can wrap.
 #[tactic(auto, unfolding(crate::specs::Pending::is_judged))]
-pub fn is_judged(n: usize, r: u64, start: u64) -> bool
-    ensures { result ≡ is_judged n r start }
+pub fn is_judged(facts: RoundFacts, start: u64) -> bool
+    ensures { result ≡ is_judged facts.n facts.round start }
 {
-    let rounds = n as u64;
-    rounds <= r && start <= r - rounds
+    let rounds = facts.n as u64;
+    rounds <= facts.round && start <= facts.round - rounds
 }
 
+// (`with_unless` in prepare.rt is told the opposite, and promises an equation on words where this tells marks.)
 fn mark_if(m: u64, t: usize, yes: bool) -> u64
     ensures { (k : ℕ) → has result k ≡ (has m k || (yes && (nat_lt k 64 && k == t))) }
 {
@@ -215,12 +219,12 @@ fn mark_if(m: u64, t: usize, yes: bool) -> u64
 
 // The transactions for which n rounds have passed, pending or not.
 #[tactic(auto, using(marks::specs::Sets::grown_none, marks::specs::Sets::grown_turn))]
-fn ripe(n: usize, r: u64, rounds: &[u64; 64]) -> u64
-    ensures { result ≡ ripe_of n r rounds.now }
+fn ripe(facts: RoundFacts, rounds: &[u64; 64]) -> u64
+    ensures { result ≡ ripe_of facts.n facts.round rounds.now }
 {
     let mut m: u64 = 0;
     for t in 0..64 {
-        m = mark_if(m, t, is_judged(n, r, rounds[t]));
+        m = mark_if(m, t, is_judged(facts, rounds[t]));
     }
     m
 }
@@ -246,11 +250,11 @@ fn judge_all(n: usize, due: u64, s: NodeTwoPcState) -> NodeTwoPcState
 // What is pending is judged. Which of it is due is found first, by numbers alone: a state is copied only where it
 // changes.
 #[tactic(auto, using(crate::proofs::Judging::judged_due))]
-pub fn judge(n: usize, r: u64, rounds: &[u64; 64], s: NodeTwoPcState) -> NodeTwoPcState
-    ensures { result ≡ judged n r rounds.now s }
+pub fn judge(facts: RoundFacts, rounds: &[u64; 64], s: NodeTwoPcState) -> NodeTwoPcState
+    ensures { result ≡ judged facts.n facts.round rounds.now s }
 {
-    let due = common(s.pending, ripe(n, r, rounds));
-    judge_all(n, due, s)
+    let due = common(s.pending, ripe(facts, rounds));
+    judge_all(facts.n, due, s)
 }
 
 // What is pending and has an abort.

@@ -21,6 +21,7 @@ pub struct PipelineConf {
 // What a pipeline room has of its own: the round number, whether it has stopped, what each position knows, the
 // transactions generated, the outcome to be told besides, the records, and the packets held. A position holds one if
 // its mark is in `holding`; C is given back also the packets that it lent at other places, so they are no Option.
+// States and packets stand in two arrays, as C lends them: all states, and behind them all packets.
 #[derive(Clone, Copy)]
 pub struct PipelinePart {
     pub round: u64,
@@ -99,8 +100,10 @@ pub fn check_early(conf: PipelineConf, slot: u64, stop: bool) -> Result<(), Refu
     network::check_length(conf.round, slot)
 }
 
-// One pipeline round; a refused one changes nothing. It is run without its rows first, so that whether it is refused is
-// known before any number that was lent is touched; and once more only if a row is due.
+// One pipeline round; a refused one changes nothing. It is run without its rows first, so that whether it is refused
+// is known before any number that was lent is touched; and once more only if a row is due. (Words, cursor, rows and
+// how many are used stand side by side, as C lends them: a struct of the four would be made at each call and taken
+// apart here.)
 pub fn pipeline_round(
     words: &[u64],
     cursor: &mut usize,

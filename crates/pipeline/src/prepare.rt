@@ -115,7 +115,7 @@ fn record_due(
     requires { t < 64 }
     ensures { result ≡ record_due facts.n facts.round facts.slot rounds.now s t b }
 {
-    if !pending::is_judged(facts.n, facts.round, rounds[t]) {
+    if !pending::is_judged(facts, rounds[t]) {
         return b;
     }
     let committed = pending::check_unanimity(facts.n, s, t);
@@ -197,7 +197,7 @@ pub fn prepare_round(
 {
     let nack = pending::nack(s, txs.counter);
     let b = begin_tx(voter, facts, num_txs, txs, s, d);
-    let own = pending::judge(facts.n, facts.round, &b.txs.rounds, b.state);
+    let own = pending::judge(facts, &b.txs.rounds, b.state);
     Prepared {
         state: own,
         txs: b.txs,

@@ -34,12 +34,15 @@ pub struct Carried {
     pub answers: u64,
 }
 
+// One position's. (Not one type with the next: its field would be called either `state` or `states`, and be wrong of
+// one.)
 #[derive(Clone, Copy)]
 pub struct Processed {
     pub state: NodeTwoPcState,
     pub carried: Carried,
 }
 
+// All positions'.
 #[derive(Clone, Copy)]
 pub struct AllProcessed {
     pub states: [NodeTwoPcState; 64],
@@ -158,7 +161,7 @@ impl Hearing<'_> {
             ..l
         };
         Processed {
-            state: pending::judge(self.facts.n, self.facts.round, self.rounds, taken),
+            state: pending::judge(self.facts, self.rounds, taken),
             carried: answer_nack(self.packet.nack, taken, noted),
         }
     }

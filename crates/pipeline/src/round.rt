@@ -224,7 +224,9 @@ impl RoundStart<'_> {
         }
     }
 
-    // The round as it ends, without its rows. One that lacks words is refused, so it is not closed.
+    // The round as it ends, without its rows. One that lacks words is refused, so it is not closed. (No Result or
+    // Option: refusals 16 and 17 are told by one test, which both kinds of rounds share, and which asks whether words
+    // ran short.)
     pub fn run(&self) -> RoundSurvey
         ensures { RoundSurveyed self.now.words.now self.now.conf self.now.network self.now.part self.now.draw result.run result.due }
     {
@@ -260,8 +262,8 @@ impl RoundStart<'_> {
         flood::flood::write_rows(self.words, self.conf.round, bytes, part, start);
     }
 
-    // The rows of an accepted round, if any is due; that they fit is what the round has just tested. (C lends a buffer
-    // and says how much of it is used: so these two go together from call to call.)
+    // The rows of an accepted round, if any is due; that they fit is what the round has just tested. (A struct of the
+    // buffer and how much of it is used would be made for this one call, which no other function follows.)
     pub fn write_due(&self, rows: &mut [u64], used: usize, due: usize)
         requires are_due { due * row_cells ≡ length (rows_of_round self.now.words.now self.now.conf self.now.network self.now.part self.now.draw) }
         requires fit { (used + due) * row_cells ≤ length rows.old }

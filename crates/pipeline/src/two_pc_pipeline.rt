@@ -46,8 +46,9 @@ pub struct Outcome {
 }
 
 // What a round's packet says. The rest of a TwoPcPacket follows: the phase is Prepare, the bitmap has an entry for
-// each position, and the data is that of the transaction if it is new. Nack 0 asks for nothing: the text has no other
-// word for it.
+// each position, and the data is that of the transaction if it is new. `fresh` stands beside the number and is no
+// Option of it: a packet without data names its transaction too. Nack 0 asks for nothing: the text has no other word
+// for it.
 #[derive(Clone, Copy, Debug, PartialEq, Eq)]
 pub struct RoundPacket {
     pub tx: usize,
@@ -67,8 +68,8 @@ pub struct Records {
     pub ends: [u64; 64],
 }
 
-// How many transactions were generated, and for each the slot and the round in which it was. Two arrays, since judging
-// is lent the rounds alone.
+// How many transactions were generated, and for each the slot and the round in which it was. Two arrays, as C lends
+// them and is given them back: all slots, and behind them all rounds.
 #[derive(Clone, Copy)]
 pub struct Txs {
     pub counter: usize,

@@ -7,7 +7,7 @@ use Rattle.loops.specs.Pick.{either}
 use Rattle.loops.specs.Table.{tabulate}
 use Rattle.loops.specs.Upto.{upto}
 use Rattle.engines.specs.Network.{new_network}
-use Rattle.engines_c.specs.Numbers.{truth, network_at, put_network}
+use Rattle.engines_c.specs.Numbers.{truth, words_at, network_at, put_network}
 use Rattle.pipeline.specs.Pending.{no_entry}
 use Rattle.pipeline.specs.Pipeline.{no_state}
 use Rattle.pipeline.specs.Round.{no_packet, new_part}
@@ -31,9 +31,6 @@ entry_numbered k = record { tx = k % 256; committed = nat_lt 255 k }
 
 unfoldable pub log_at : List ℕ → ℕ → TxLog
 log_at xs at = record { len = slice_index xs at; entries = tabulate 64 (λ i. entry_numbered (slice_index xs (at + 1 + i))) }
-
-unfoldable pub words_at : List ℕ → ℕ → List ℕ
-words_at xs at = tabulate 64 (λ i. slice_index xs (at + i))
 
 -- What a position knows: its log (65 numbers), pending, aborts, and the votes on each transaction.
 unfoldable pub state_at : List ℕ → ℕ → NodeTwoPcState

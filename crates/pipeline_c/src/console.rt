@@ -15,7 +15,7 @@ ghost use Rattle.limits.specs.Refusals.{answer_of};
 ghost use Rattle.engines_c.specs.Numbers.{truth};
 ghost use Rattle.flood.specs.Flood.{flood_length};
 ghost use Rattle.pipeline_c.specs.Play.{play_rounds};
-ghost use Rattle.pipeline_c.specs.Console.{entry_numbered, entry_number, log_at, log_numbers, put_log, words_at, state_at, states_at, put_state, put_states, piggyback_numbered, piggyback_there, piggyback_number, piggyback_outcome, packet_at, packets_at, packet_numbers, put_packets, txs_at, records_at, part_at, played_at, playing_at, clock_numbers, head_numbers, put_head, put_txs, put_part, put_played, conf_by, left_in, opened};
+ghost use Rattle.pipeline_c.specs.Console.{entry_numbered, entry_number, log_at, log_numbers, put_log, state_at, states_at, put_state, put_states, piggyback_numbered, piggyback_there, piggyback_number, piggyback_outcome, packet_at, packets_at, packet_numbers, put_packets, txs_at, records_at, part_at, played_at, playing_at, clock_numbers, head_numbers, put_head, put_txs, put_part, put_played, conf_by, left_in, opened};
 
 use super::rounds;
 use super::rounds::Played;
@@ -32,7 +32,7 @@ use std::array;
 
 // ---- from numbers
 
-// (No From: the number is C's, and the crate of LogEntry knows of no C.)
+// (No From: two facts in one number are this list's way, and no reading of a LogEntry elsewhere.)
 fn entry_numbered(k: u64) -> LogEntry
     ensures { result ≡ entry_numbered k }
 {
@@ -44,23 +44,15 @@ fn entry_numbered(k: u64) -> LogEntry
 
 // The log that starts at a place. (List and place are passed on as in engines_c src/numbers.rt.)
 fn log_of(xs: &[u64], at: usize) -> TxLog
-    requires { at ≤ 10000 }
     ensures { result ≡ log_at xs.now at }
 {
     TxLog {
         len: numbers::number(xs, at) as usize,
-        entries: array::from_fn(|i| entry_numbered(numbers::number(xs, at + 1 + i))),
+        entries: array::from_fn(|i| entry_numbered(numbers::number_behind(xs, at, 1 + i))),
     }
 }
 
-// The 64 numbers from a place on.
-fn words_of(xs: &[u64], at: usize) -> [u64; 64]
-    requires { at ≤ 10000 }
-    ensures { result ≡ words_at xs.now at }
-{
-    array::from_fn(|i| numbers::number(xs, at + i))
-}
-
+// (The bound keeps at + 67 from wrapping; why it is no sum that stops at the top, engines_c src/numbers.rt says.)
 #[tactic(auto, unfolding(crate::specs::Console::state_at))]
 fn state_of(xs: &[u64], at: usize) -> NodeTwoPcState
     requires { at ≤ 9900 }
@@ -68,9 +60,9 @@ fn state_of(xs: &[u64], at: usize) -> NodeTwoPcState
 {
     NodeTwoPcState {
         log: log_of(xs, at),
-        pending: numbers::number(xs, at + 65),
-        aborts: numbers::number(xs, at + 66),
-        votes: words_of(xs, at + 67),
+        pending: numbers::number_behind(xs, at, 65),
+        aborts: numbers::number_behind(xs, at, 66),
+        votes: numbers::words_of(xs, at + 67),
     }
 }
 
@@ -80,33 +72,33 @@ fn states_of(xs: &[u64]) -> [NodeTwoPcState; 64]
     array::from_fn(|i| state_of(xs, 789 + i * 131))
 }
 
-// The piggyback whose three numbers start at a place.
-fn piggyback_of(xs: &[u64], at: usize) -> Option<Outcome>
-    requires { at ≤ 10010 }
-    ensures { result ≡ piggyback_numbered (slice_index xs.now at) (slice_index xs.now (at + 1)) (slice_index xs.now (at + 2)) }
+fn piggyback_numbered(there: u64, tx: u64, outcome: u64) -> Option<Outcome>
+    ensures { result ≡ piggyback_numbered there tx outcome }
 {
-    if numbers::number(xs, at) == 0 {
+    if there == 0 {
         return None;
     }
     Some(Outcome {
-        tx: numbers::number(xs, at + 1) as usize,
-        committed: numbers::number(xs, at + 2) != 0,
+        tx: tx as usize,
+        committed: outcome != 0,
     })
 }
 
 #[tactic(auto, unfolding(crate::specs::Console::packet_at))]
 fn packet_of(xs: &[u64], at: usize) -> RoundPacket
-    requires { at ≤ 10000 }
     ensures { result ≡ packet_at xs.now at }
 {
+    let there = numbers::number_behind(xs, at, 6);
+    let tx = numbers::number_behind(xs, at, 7);
+    let outcome = numbers::number_behind(xs, at, 8);
     RoundPacket {
         tx: numbers::number(xs, at) as usize,
-        bits: numbers::number(xs, at + 1),
-        abort: numbers::number(xs, at + 2) != 0,
-        nack: numbers::number(xs, at + 3) as usize,
-        fresh: numbers::number(xs, at + 4) != 0,
-        sender: numbers::number(xs, at + 5) as usize,
-        piggyback: piggyback_of(xs, at + 6),
+        bits: numbers::number_behind(xs, at, 1),
+        abort: numbers::number_behind(xs, at, 2) != 0,
+        nack: numbers::number_behind(xs, at, 3) as usize,
+        fresh: numbers::number_behind(xs, at, 4) != 0,
+        sender: numbers::number_behind(xs, at, 5) as usize,
+        piggyback: piggyback_numbered(there, tx, outcome),
     }
 }
 
@@ -122,8 +114,8 @@ fn txs_of(xs: &[u64]) -> Txs
 {
     Txs {
         counter: numbers::number(xs, 19) as usize,
-        starts: words_of(xs, 20),
-        rounds: words_of(xs, 84),
+        starts: numbers::words_of(xs, 20),
+        rounds: numbers::words_of(xs, 84),
     }
 }
 
@@ -133,7 +125,7 @@ fn records_of(xs: &[u64]) -> Records
 {
     Records {
         log: log_of(xs, 148),
-        ends: words_of(xs, 213),
+        ends: numbers::words_of(xs, 213),
     }
 }
 
@@ -141,12 +133,15 @@ fn records_of(xs: &[u64]) -> Records
 fn part_of(xs: &[u64]) -> PipelinePart
     ensures { result ≡ part_at xs.now }
 {
+    let there = numbers::number(xs, 15);
+    let tx = numbers::number(xs, 16);
+    let outcome = numbers::number(xs, 17);
     PipelinePart {
         round: numbers::number(xs, 2),
         stop: numbers::number(xs, 4) != 0,
         states: states_of(xs),
         txs: txs_of(xs),
-        piggyback: piggyback_of(xs, 15),
+        piggyback: piggyback_numbered(there, tx, outcome),
         records: records_of(xs),
         payloads: packets_of(xs),
         holding: numbers::number(xs, 18),
@@ -168,7 +163,7 @@ fn played_of(xs: &[u64]) -> Played
 
 // ---- to numbers
 
-fn entry_number(e: LogEntry) -> u64
+pub fn entry_number(e: LogEntry) -> u64
     ensures { result ≡ entry_number e }
 {
     if e.committed {
@@ -193,6 +188,7 @@ fn put_log(xs: &mut [u64], at: usize, g: TxLog)
     numbers::put_run(xs, at, 1, &values);
 }
 
+// (Bounded as `state_of` is.)
 #[tactic(auto, unfolding(crate::specs::Console::put_state))]
 fn put_state(xs: &mut [u64], at: usize, s: NodeTwoPcState)
     requires { at ≤ 10000 }
@@ -367,7 +363,7 @@ fn conf_of(
         round: RoundConf {
             graph: NetworkGraph {
                 n,
-                adj: words_of(links, 0),
+                adj: numbers::words_of(links, 0),
             },
             settings,
             interval,

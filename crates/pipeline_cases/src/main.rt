@@ -13,14 +13,15 @@ use anyhow::{Context, Result};
 use engines::network::{Network, RoundConf};
 use engines::node::Node;
 use engines::settings::Settings;
+use engines_c::numbers;
 use graph::network::NetworkGraph;
 use graph::sets;
 use limits::refusals;
 use limits::refusals::Refusal;
 use pipeline::pipeline::{PipelineConf, PipelinePart};
-use pipeline::two_pc_pipeline::{LogEntry, NodeTwoPcState, Records, TxLog, Txs};
-use pipeline_c::rounds;
+use pipeline::two_pc_pipeline::{NodeTwoPcState, Records, TxLog, Txs};
 use pipeline_c::rounds::Played;
+use pipeline_c::{console, rounds};
 use std::alloc::{AllocError, Global};
 use std::{io, iter};
 
@@ -152,23 +153,10 @@ impl Digest {
         }
     }
 
-    fn feed_node(&mut self, v: &Node) {
-        self.feed_all(&[
-            v.state as u64,
-            v.flood_remaining as u64,
-            v.last_progress_slot,
-            v.goal_reached as u64,
-            v.progress_count,
-            v.slots_listen,
-            v.slots_flood,
-            v.slots_sleep,
-        ]);
-    }
-
     fn feed_log(&mut self, log: &TxLog) {
         self.feed(log.len as u64);
         for entry in log.entries.iter().take(log.len) {
-            self.feed(entry_number(entry));
+            self.feed(console::entry_number(*entry));
         }
     }
 
@@ -184,27 +172,19 @@ impl Digest {
         for entry in records.log.entries.iter().take(records.log.len) {
             let tx = entry.tx as usize;
             if let (Some(start), Some(end)) = (txs.starts.get(tx), records.ends.get(tx)) {
-                self.feed_all(&[entry_number(entry), *start, *end]);
+                self.feed_all(&[console::entry_number(*entry), *start, *end]);
             }
         }
     }
 }
 
-// No From: the entry's type is of another crate.
-fn entry_number(entry: &LogEntry) -> u64 {
-    if entry.committed {
-        entry.tx as u64 + 256
-    } else {
-        entry.tx as u64
-    }
-}
-
-// Of the first n positions, what was recorded, and the rows from one to another.
+// Of the first n positions, what was recorded, and the rows that the call used. (Rows and how many were used before
+// stand side by side, since a line of input names both: a struct of the two would be made for this one call.)
 fn digest_of(played: &Played, n: usize, rows: &[u64], used: usize) -> u64 {
     let mut digest = Digest(0);
     let nodes = played.network.nodes.iter();
     for (node, state) in nodes.zip(played.part.states.iter()).take(n) {
-        digest.feed_node(node);
+        digest.feed_all(&numbers::node_numbers(*node));
         digest.feed_log(&state.log);
         digest.feed_pending(state);
     }
@@ -272,7 +252,7 @@ fn say_counts(rt: &impl Print, refusal: u64, t: &Played, n: usize) -> io::Result
 fn say_log(rt: &impl Print, log: &TxLog) -> io::Result<()> {
     print!(rt; " {}", log.len)?;
     for entry in log.entries.iter().take(log.len) {
-        print!(rt; " {}", entry_number(entry))?;
+        print!(rt; " {}", console::entry_number(*entry))?;
     }
     Ok(())
 }

@@ -33,8 +33,8 @@ impl fmt::Display for Failure {
     }
 }
 
-// What the program reads and writes to, and the words and the output that each answer is lent: two buffers of their own,
-// as no word stands beside a byte.
+// What the program reads and writes to, and the words and the output that each answer is lent: two buffers of their
+// own, as no word stands beside a byte.
 #[derive(Clone, Copy)]
 struct Planner {
     input: Stdin,
@@ -49,8 +49,8 @@ impl Planner {
     }
 
     // What a read brought is answered before the next read: who waits for a line's answer gets it. Where the output is
-    // full it is written, and filled anew. From the place handed back on stands the line that is left. A `while`: a turn
-    // goes on where the call says.
+    // full it is written, and filled anew. From the place handed back on stands the line that is left. A `while`: a
+    // turn goes on where the call says.
     fn answer(&mut self, text: &[u8], n: usize) -> Result<usize, Failure>
         ensures { IfOk result (λ from. (from ≤ length text.now) × (drop from text.now ≡ left_of (take n text.now) (drop n text.now))) }
     {

@@ -7,7 +7,7 @@ ghost use Rattle.readings.specs.Readings.{term_of, round_of, stopped_of, propose
 use engines::metrics::MetricsCollector;
 use engines::node::Node;
 use engines::settings::Settings;
-use graph::network::check_size;
+use graph::network::{check_position, check_size};
 use graph::sets;
 use limits::refusals::Refusal;
 use merges::merging;
@@ -16,11 +16,11 @@ use packets::{Data, two_pc_ce, two_pc_pipeline};
 use pipeline::packet;
 use pipeline::pipeline::PipelinePart;
 use pipeline::two_pc_pipeline::{LogEntry, NodeTwoPcState, RoundPacket, TxLog};
-use room::room::{Room, RoomKind, check_position};
+use room::room::{Room, RoomKind};
 
 // What is held of a transaction for a position: whether it is pending, whether an abort is known of it, who has said
 // yes, the round of its start, and its data if it is pending. If it is not, the round is the room's all the same, and
-// abort and votes are as they were last.
+// abort and votes are as they were last; C is told all of them, and data of no bytes.
 #[derive(Clone, Copy)]
 pub struct PendingReading {
     pub pending: bool,
@@ -100,14 +100,14 @@ pub fn flood_coverage(r: &Room) -> Option<f64>
 pub fn term(r: &Room) -> Result<u64, Refusal>
     ensures { result ≡ term_of r.now }
 {
-    r.conf.kind.check_capture()?;
+    r.conf.kind.check(RoomKind::Capture)?;
     Ok(r.capture.term)
 }
 
 pub fn round(r: &Room) -> Result<u64, Refusal>
     ensures { result ≡ round_of r.now }
 {
-    r.conf.kind.check_pipeline()?;
+    r.conf.kind.check(RoomKind::Pipeline)?;
     Ok(r.pipeline.round)
 }
 
@@ -115,7 +115,7 @@ pub fn round(r: &Room) -> Result<u64, Refusal>
 pub fn stopped(r: &Room) -> Result<u64, Refusal>
     ensures { result ≡ stopped_of r.now }
 {
-    r.conf.kind.check_pipeline()?;
+    r.conf.kind.check(RoomKind::Pipeline)?;
     Ok(u64::from(r.pipeline.stop))
 }
 
@@ -123,10 +123,7 @@ pub fn stopped(r: &Room) -> Result<u64, Refusal>
 fn proposer(initiator: Option<usize>) -> Result<u64, Refusal>
     ensures { result ≡ proposer_of initiator }
 {
-    match initiator {
-        Some(v) => Ok(v as u64),
-        None => Err(Refusal::NoProposal),
-    }
+    initiator.map(|v| v as u64).ok_or(Refusal::NoProposal)
 }
 
 // Who floods first in a round of n positions: in a capture room who proposed last, in a pipeline room the positions
@@ -149,7 +146,7 @@ pub fn proposal_outcome(r: &Room) -> Result<ProposalOutcome, Refusal>
 {
     let n = r.conf.round.graph.n;
     check_size(n)?;
-    r.conf.kind.check_capture()?;
+    r.conf.kind.check(RoomKind::Capture)?;
     Ok(merging::proposal_outcome(r.capture.held, n))
 }
 
@@ -170,7 +167,7 @@ fn check_part(r: &Room, v: usize) -> Result<(), Refusal>
     ensures { result ≡ of_pipeline r.now v }
 {
     check_position(r.conf.round.graph.n, v)?;
-    r.conf.kind.check_pipeline()
+    r.conf.kind.check(RoomKind::Pipeline)
 }
 
 #[tactic(auto, using(crate::proofs::Answers::part_below))]
@@ -229,10 +226,7 @@ fn record_in(x: &PipelinePart, k: usize) -> RecordReading
     ensures { result ≡ record_in x.now k }
 {
     let entry = entry(&x.records.log, k);
-    let tx = match entry {
-        Some(e) => usize::from(e.tx),
-        None => 0,
-    };
+    let tx = entry.map_or(0, |e| usize::from(e.tx));
     RecordReading {
         entry,
         start: x.txs.starts.get(tx).copied().unwrap_or(0),
@@ -244,7 +238,7 @@ fn record_in(x: &PipelinePart, k: usize) -> RecordReading
 pub fn record(r: &Room, k: usize) -> Result<RecordReading, Refusal>
     ensures { result ≡ record_of r.now k }
 {
-    r.conf.kind.check_pipeline()?;
+    r.conf.kind.check(RoomKind::Pipeline)?;
     Ok(record_in(&r.pipeline, k))
 }
 
@@ -255,12 +249,12 @@ fn capture_text(l: Payload, out: &mut [u8]) -> Result<usize, Refusal>
     ensures out_after { out.new ≡ ce_left l out.old }
 {
     match l.held {
-        Held::Empty => Ok(0),
-        Held::Unreadable => Ok(0),
+        Held::Empty | Held::Unreadable => Ok(0),
         Held::Packet => two_pc_ce::write_ce_packet(out, 0, l.packet),
     }
 }
 
+// (Whether a packet is held stands beside it, as in the room's part.)
 #[tactic(auto, unfolding(crate::specs::Readings::pipe_answer_of, crate::specs::Readings::pipe_left))]
 fn pipeline_text(n: usize, holds: bool, q: RoundPacket, out: &mut [u8]) -> Result<usize, Refusal>
     ensures value { result ≡ pipe_answer_of n holds q out.old }

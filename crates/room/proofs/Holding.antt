@@ -3,14 +3,13 @@
 use Rattle.std.proofs.Common.{◌≡◌, ℕ, zero, suc, ◌<◌, ◌≤◌, ltb, List, [], ◌∷◌, get_or, set, sym, refl, ◌∙◌, arith}
 use Rattle.loops.specs.Upto.{upto_holds}
 use Rattle.merges.specs.Votes.{no_of}
-use Rattle.merges.specs.Merging.{Noes, merge_of, no_payload}
+use Rattle.merges.specs.Merging.{Merged, Noes, merge_of, no_payload}
 use Rattle.merges.specs.Sound.{SoundHeld, ValidHeld, Grew, Grown}
 use Rattle.merges.specs.declared.votes.Voting.{Voting}
 use Rattle.packets.specs.declared.CeTwoPcPacket.{CeTwoPcPacket}
 use Rattle.merges.specs.declared.merging.Held.{Held}
 use Rattle.merges.specs.declared.merging.Held.TheVariants.{Empty, Unreadable, Packet}
 use Rattle.merges.specs.declared.merging.Payload.{Payload}
-use Rattle.merges.specs.declared.merging.Merged.{Merged}
 use Rattle.merges.proofs.Safety.{either_cases, merges_sound}
 use Rattle.merges.proofs.Growth.{merges_grow, merges_keep_term, empty_adopts, nothing_heard}
 use Rattle.merges.proofs.Limits.{merges_valid}

@@ -81,6 +81,6 @@ few_transactions a e =
     let many = second_held (holds_or (not (eqb a.interval 0)) NoInterval) _ tt interval in
     leb-true a.transactions transactions (held (leb a.transactions transactions) ManyTransactions many)
 
-pub opened_within : (a : Asked) → open_test a ≡ Ok tt → Within a.transactions 0 (opened_by a)
+pub opened_within : (a : Asked) → a.transactions ≤ 64 → Within a.transactions 0 (opened_by a)
 unfolding new_room new_part
-opened_within a e = record { transactions = omega arith; bounded = few_transactions a e; spent = (refl, omega arith) }
+opened_within a few = record { transactions = omega arith; bounded = few; spent = (refl, omega arith) }

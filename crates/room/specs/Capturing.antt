@@ -11,9 +11,7 @@ use Rattle.limits.specs.declared.refusals.Refusal.TheVariants.{NoProposal, NoTer
 use Rattle.graph.specs.Links.{size_test, position_test}
 use Rattle.merges.specs.Votes.{no_of}
 use Rattle.loops.specs.Wrap.{add64}
-use Rattle.merges.specs.Merging.{proposal_of}
-use Rattle.packets.specs.declared.TwoPcPhase.TheVariants.{Prepare}
-use Rattle.packets.specs.declared.CeTwoPcPacket.{CeTwoPcPacket}
+use Rattle.merges.specs.Merging.{proposal_of, without}
 use Rattle.merges.specs.declared.merging.Held.TheVariants.{Empty, Packet}
 use Rattle.merges.specs.declared.merging.Payload.{Payload}
 use Rattle.engines.specs.Clamp.{at_most64}
@@ -34,11 +32,8 @@ noes_of c = no_of (voting_of c.round)
 -- ---- as opened
 
 -- nothing held
-abbrev pub empty_packet : CeTwoPcPacket
-empty_packet = record { term = 0; phase = Prepare; proposal_data = record { len = 0; bytes = replicate 32 0 }; flags_bitmap = record { len = 0; marks = 0 } }
-
 abbrev pub empty_payload : Payload
-empty_payload = record { held = Empty; packet = empty_packet }
+empty_payload = without Empty
 
 abbrev pub new_capture : ℕ → CapturePart
 new_capture term = record { term = term; initiator = None; raised = false; held = replicate 64 empty_payload }

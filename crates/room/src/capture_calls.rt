@@ -3,19 +3,17 @@
 ghost use Rattle.std.specs.Prelude.{◌≡◌, ◌<◌, length, replicate};
 ghost use Rattle.room.specs.Capturing.{empty_payload, new_capture, proposer, propose_test, propose_part, capture_test, ce_state, raised, raised_all, network_after, part_after, capture_part, capture_rows};
 
-use super::room;
-use super::room::RoomConf;
+use super::room::{RoomConf, RoomKind};
 use capture::capture as engine;
 use capture::capture::CeState;
 use engines::network::Network;
 use engines::node::Node;
 use engines::words::Draw;
 use engines::{network, node};
-use graph::network::check_size;
+use graph::network::{check_position, check_size};
 use limits::refusals::Refusal;
 use merges::merging;
 use merges::merging::{Held, Payload};
-use packets::{Bitmap, CeTwoPcPacket, Data, TwoPcPhase};
 
 // What a capture room has of its own: the present term, who proposed in it if anybody has, whether the progress was
 // raised for it, and what each position holds.
@@ -29,26 +27,11 @@ pub struct CapturePart {
 
 // ---- opening
 
-fn empty_payload() -> Payload
-    ensures { result ≡ empty_payload }
-{
-    let bytes = [0u8; 32];
-    Payload {
-        held: Held::Empty,
-        packet: CeTwoPcPacket {
-            term: 0,
-            phase: TwoPcPhase::Prepare,
-            proposal_data: Data { len: 0, bytes },
-            flags_bitmap: Bitmap { len: 0, marks: 0 },
-        },
-    }
-}
-
+// Nobody holds anything.
 fn empty_payloads() -> [Payload; 64]
     ensures { result ≡ replicate 64 empty_payload }
 {
-    let e = empty_payload();
-    [e; 64]
+    [Payload::without(Held::Empty); 64]
 }
 
 impl CapturePart {
@@ -67,7 +50,8 @@ impl CapturePart {
 }
 
 impl CapturePart {
-    // Who proposed last; 0 while nobody has, when every round is refused.
+    // Who proposed last; 0 while nobody has, when every round is refused. A number, as C is told one, and the rule of a
+    // round has no case for what is refused before.
     pub fn proposer(&self) -> usize
         ensures { result ≡ proposer self.now }
     {
@@ -81,8 +65,8 @@ impl CapturePart {
 fn check_propose(conf: RoomConf, term: u64, v: usize) -> Result<(), Refusal>
     ensures { result ≡ propose_test conf term v }
 {
-    room::check_position(conf.round.graph.n, v)?;
-    conf.kind.check_capture()?;
+    check_position(conf.round.graph.n, v)?;
+    conf.kind.check(RoomKind::Capture)?;
     if term == limits::LAST_TERM {
         return Err(Refusal::NoTerm);
     }
@@ -119,7 +103,7 @@ pub fn check_capture(conf: RoomConf, proposed: bool, slot: u64) -> Result<(), Re
     ensures { result ≡ capture_test conf proposed slot }
 {
     check_size(conf.round.graph.n)?;
-    conf.kind.check_capture()?;
+    conf.kind.check(RoomKind::Capture)?;
     if !proposed {
         return Err(Refusal::NoProposal);
     }

@@ -2,7 +2,7 @@
 ghost use Rattle.std.specs.Prelude.{◌≡◌, length};
 ghost use Rattle.room.specs.Pipelining.{pipe_conf, pipeline_test, pipeline_part, pipeline_rows};
 
-use super::room::RoomConf;
+use super::room::{RoomConf, RoomKind};
 use engines::network::Network;
 use graph::network::check_size;
 use limits::refusals::Refusal;
@@ -26,7 +26,7 @@ pub fn check_pipeline(conf: RoomConf, stop: bool, slot: u64) -> Result<(), Refus
     ensures { result ≡ pipeline_test conf stop slot }
 {
     check_size(conf.round.graph.n)?;
-    conf.kind.check_pipeline()?;
+    conf.kind.check(RoomKind::Pipeline)?;
     engine::check_early(pipe_conf(conf), slot, stop)
 }
 

@@ -3,9 +3,8 @@
 // it was.
 ghost use Rattle.std.specs.Prelude.{◌≡◌, ◌&&◌, length, ◌==◌};
 ghost use Rattle.graph.specs.Paths.{length_of};
-ghost use Rattle.graph.specs.Links.{position_test};
 ghost use Rattle.std.specs.Result.{result_unwrap_or};
-ghost use Rattle.room.specs.Kinds.{is_pipeline, capture_only, pipeline_only};
+ghost use Rattle.room.specs.Kinds.{is_pipeline, kind_number, kind_numbered, kind_test};
 ghost use Rattle.room.specs.Rooms.{room_limits, open_test, round_length, new_room, conf_of, open_of, propose_of, capture_of, capture_buffer, pipeline_of, pipeline_buffer};
 
 use super::capture_calls::CapturePart;
@@ -14,14 +13,36 @@ use engines::network::{Network, RoundConf};
 use engines::settings;
 use engines::settings::Settings;
 use flood::flood as engine;
-use graph::network::{NetworkGraph, check_size};
+use graph::network::NetworkGraph;
 use limits::refusals::Refusal;
 use pipeline::pipeline::PipelinePart;
 
+// With the numbers that a frame and C have for them.
 #[derive(Clone, Copy, Debug, PartialEq, Eq)]
 pub enum RoomKind {
-    Pipeline,
-    Capture,
+    Pipeline = 1,
+    Capture = 2,
+}
+
+impl From<RoomKind> for u64 {
+    ghost from_gives = { λ k n. n ≡ kind_number k };
+
+    fn from(kind: RoomKind) -> u64 {
+        kind as u64
+    }
+}
+
+// And the way back. Every number but 1 is a capture room: C's lists may have any, and a frame refuses all but 1 and 2
+// before it comes to this.
+impl From<u64> for RoomKind {
+    ghost from_gives = { λ n k. k ≡ kind_numbered n };
+
+    fn from(n: u64) -> RoomKind {
+        match n {
+            1 => RoomKind::Pipeline,
+            _ => RoomKind::Capture,
+        }
+    }
 }
 
 // What is fixed at the opening: the kind, what a round goes by, and of a pipeline room the number of transactions and
@@ -92,50 +113,22 @@ impl Room {
 
 // ---- opening
 
-// Refusals 2 and 8 of a call on position v of n.
-#[tactic(auto, unfolding(graph::specs::Links::position_test))]
-pub fn check_position(n: usize, v: usize) -> Result<(), Refusal>
-    ensures { result ≡ position_test n v }
-{
-    check_size(n)?;
-    if v >= n {
-        return Err(Refusal::NoPosition);
-    }
-    Ok(())
-}
-
 impl RoomKind {
-    // Refusal 11 of a call for a capture room.
-    pub fn check_capture(self) -> Result<(), Refusal>
-        ensures { result ≡ capture_only self }
+    // Refusal 11 of a call for a room of the wanted kind.
+    pub fn check(self, wanted: RoomKind) -> Result<(), Refusal>
+        ensures { result ≡ kind_test wanted self }
     {
-        match self {
-            RoomKind::Pipeline => Err(Refusal::OtherKind),
-            RoomKind::Capture => Ok(()),
+        if self != wanted {
+            return Err(Refusal::OtherKind);
         }
+        Ok(())
     }
-
-    // Of one for a pipeline room.
-    pub fn check_pipeline(self) -> Result<(), Refusal>
-        ensures { result ≡ pipeline_only self }
-    {
-        match self {
-            RoomKind::Pipeline => Ok(()),
-            RoomKind::Capture => Err(Refusal::OtherKind),
-        }
-    }
-}
-
-pub fn is_pipeline(kind: RoomKind) -> bool
-    ensures { result ≡ is_pipeline kind }
-{
-    matches!(kind, RoomKind::Pipeline)
 }
 
 fn no_repeats(kind: RoomKind, repeats: u32) -> bool
     ensures { result ≡ (is_pipeline kind && repeats == 0) }
 {
-    is_pipeline(kind) && repeats == 0
+    kind == RoomKind::Pipeline && repeats == 0
 }
 
 impl Asked {

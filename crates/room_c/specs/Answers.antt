@@ -4,7 +4,7 @@ use Rattle.std.specs.Prelude.{ℕ, false, List, [], ◌∷◌, ◌++◌, Float, 
 use Rattle.std.specs.Result.{result_unwrap_or}
 use mir.Val.{bool_byte}
 use Rattle.limits.specs.Refusals.{answer_of}
-use Rattle.merges.specs.declared.merging.ProposalOutcome.{ProposalOutcome}
+use Rattle.merges.specs.Merging.{outcome_number}
 use Rattle.merges.specs.declared.merging.ProposalOutcome.TheVariants as outcomes
 use Rattle.engines.specs.Nodes.{no_node}
 use Rattle.engines_c.specs.Numbers.{node_numbers, metrics_numbers}
@@ -12,8 +12,7 @@ use Rattle.pipeline.specs.Pipeline.{data_of}
 use Rattle.pipeline.specs.declared.two_pc_pipeline.LogEntry.{LogEntry}
 use Rattle.readings.specs.declared.readings.PendingReading.{PendingReading}
 use Rattle.readings.specs.declared.readings.RecordReading.{RecordReading}
-use Rattle.room.specs.declared.room.RoomKind.{RoomKind}
-use Rattle.room.specs.declared.room.RoomKind.TheVariants as kinds
+use Rattle.room.specs.Kinds.{kind_number}
 use Rattle.readings.specs.Calls.{
   Answer,
   a_kind,
@@ -29,17 +28,6 @@ use Rattle.readings.specs.Calls.{
   a_pending,
   a_record,
 }
-
--- as in a frame
-abbrev pub kind_number : RoomKind → ℕ
-kind_number kinds.Pipeline = 1
-kind_number kinds.Capture = 2
-
--- as the phase of that name; what no phase is called is 3
-abbrev pub outcome_number : ProposalOutcome → ℕ
-outcome_number outcomes.Committed = 1
-outcome_number outcomes.Aborted = 2
-outcome_number outcomes.TimedOut = 3
 
 -- 1 if there is a ratio, which is then a float
 abbrev pub ratio_number : Option Float → ℕ

@@ -16,8 +16,7 @@ use Rattle.graph.specs.Links.{rows_of}
 use Rattle.graph.specs.declared.network.NetworkGraph.{NetworkGraph}
 use Rattle.pipeline_c.specs.Console.{put_played}
 use Rattle.pipeline_c.specs.declared.rounds.Played.{Played}
-use Rattle.room.specs.declared.room.RoomKind.{RoomKind}
-use Rattle.room.specs.declared.room.RoomKind.TheVariants as kinds
+use Rattle.room.specs.Kinds.{kind_numbered}
 use Rattle.room.specs.declared.room.Room.{Room}
 use Rattle.room.specs.declared.room.Asked.{Asked}
 use Rattle.room.specs.Rooms.{open_of, propose_of, RoundAnswer, capture_of, capture_buffer, pipeline_of, pipeline_buffer}
@@ -49,10 +48,6 @@ use Rattle.demand.specs.Calls.{Call, Propose, CaptureRound, PipelineRound, Read,
 use Rattle.room_c.specs.Answers.{Said, plain, said, told_in}
 
 -- ---- the opening
-
--- 1 is a pipeline, as in a frame; every other number is a capture room
-unfoldable pub kind_numbered : ℕ → RoomKind
-kind_numbered k = either (eqb k 1) kinds.Pipeline kinds.Capture
 
 -- from place 5 on: seed, listen timeout, repeats (the low 32 digits), slots of a round, whether these are given
 unfoldable pub settings_by : List ℕ → Float → Float → Settings

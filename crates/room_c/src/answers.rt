@@ -7,7 +7,7 @@ ghost use Rattle.std.proofs.lemmas.List.Edits.{sets};
 ghost use Rattle.limits.specs.Refusals.{answer_of};
 ghost use Rattle.engines_c.specs.Numbers.{metrics_numbers};
 ghost use Rattle.readings.specs.Calls.{the_settings, a_ratio, maybe_number, an_outcome, a_node, an_entry, a_pending, a_record};
-ghost use Rattle.room_c.specs.Answers.{kind_number, outcome_number, entry_numbers, nothing_held, no_record, said, told_in};
+ghost use Rattle.room_c.specs.Answers.{entry_numbers, nothing_held, no_record, said, told_in};
 
 use engines::metrics::MetricsCollector;
 use engines::node::Node;
@@ -19,29 +19,6 @@ use merges::merging::ProposalOutcome;
 use pipeline::packet;
 use pipeline::two_pc_pipeline::LogEntry;
 use readings::readings::{PendingReading, RecordReading};
-use room::room::RoomKind;
-
-// ---- numbers of enums, and counts
-
-// The kinds and outcomes are other crates' enums, so that no From can stand here; and C counts both from 1.
-pub fn kind_number(kind: RoomKind) -> u64
-    ensures { result ≡ kind_number kind }
-{
-    match kind {
-        RoomKind::Pipeline => 1,
-        RoomKind::Capture => 2,
-    }
-}
-
-fn outcome_number(outcome: ProposalOutcome) -> u64
-    ensures { result ≡ outcome_number outcome }
-{
-    match outcome {
-        ProposalOutcome::Committed => 1,
-        ProposalOutcome::Aborted => 2,
-        ProposalOutcome::TimedOut => 3,
-    }
-}
 
 pub fn tell_metrics(told: &mut [u64], m: MetricsCollector)
     ensures { told.new ≡ sets told.old 0 (0 ∷ metrics_numbers m) }
@@ -64,7 +41,7 @@ pub fn tell_outcome(told: &mut [u64], q: Result<ProposalOutcome, Refusal>)
     ensures { told.new ≡ sets told.old 0 (told_in (said (an_outcome q))) }
 {
     let outcome = q.unwrap_or(ProposalOutcome::TimedOut);
-    numbers::put_run(told, 0, 0, &[refusals::answer(q), outcome_number(outcome)]);
+    numbers::put_run(told, 0, 0, &[refusals::answer(q), u64::from(outcome)]);
 }
 
 pub fn tell_text(told: &mut [u64], q: Result<usize, Refusal>)

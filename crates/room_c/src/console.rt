@@ -25,7 +25,7 @@ ghost use Rattle.std.proofs.lemmas.List.Edits.{sets};
 ghost use Rattle.limits.specs.Refusals.{answer_of};
 ghost use Rattle.demand.specs.Calls.{Propose, handed};
 ghost use Rattle.room_c.specs.Answers.{told_in};
-ghost use Rattle.room_c.specs.Console.{kind_numbered, settings_by, asked_by, opening_by, whole_said, part_said};
+ghost use Rattle.room_c.specs.Console.{settings_by, asked_by, opening_by, whole_said, part_said};
 ghost use Rattle.room_c.specs.Console.{call_said, call_of, turn, play};
 ghost use Rattle.room_c.specs.Console.{played_by, term_numbers, put_room, run_from};
 
@@ -47,17 +47,6 @@ const FLOATS: usize = 2;
 
 // ---- the opening
 
-// Every number is a kind here, as C needs it; and no From can stand here for another crate's enum.
-#[tactic(auto, unfolding(crate::specs::Console::kind_numbered))]
-fn kind_numbered(k: u64) -> RoomKind
-    ensures { result ≡ kind_numbered k }
-{
-    if k == 1 {
-        return RoomKind::Pipeline;
-    }
-    RoomKind::Capture
-}
-
 #[tactic(auto, unfolding(crate::specs::Console::settings_by))]
 fn settings_by(xs: &[u64], loss_rate: f64, abort_probability: f64) -> Settings
     ensures { result ≡ settings_by xs.now loss_rate abort_probability }
@@ -77,7 +66,7 @@ fn settings_by(xs: &[u64], loss_rate: f64, abort_probability: f64) -> Settings
 fn asked_by(xs: &[u64], loss_rate: f64, abort_probability: f64, graph: NetworkGraph) -> Asked
     ensures { result ≡ asked_by xs.now loss_rate abort_probability graph }
 {
-    let kind = kind_numbered(numbers::number(xs, 0));
+    let kind = RoomKind::from(numbers::number(xs, 0));
     let settings = settings_by(xs, loss_rate, abort_probability);
     Asked {
         kind,
@@ -132,7 +121,7 @@ fn read_whole(told: &mut [u64], floats: &mut [f64], which: u64, r: &Room)
     ensures floats_after { floats.new ≡ sets floats.old 0 (whole_said which r.now).floats }
 {
     match which {
-        4 => answers::tell_number(told, Ok(answers::kind_number(reading::kind(r)))),
+        4 => answers::tell_number(told, Ok(u64::from(reading::kind(r)))),
         5 => answers::tell_number(told, Ok(reading::num_nodes(r) as u64)),
         6 => answers::tell_settings(told, floats, reading::settings(r)),
         7 => answers::tell_number(told, Ok(reading::slot(r))),
@@ -167,7 +156,8 @@ fn read_part(told: &mut [u64], text: &mut [u8], which: u64, a: usize, b: usize, 
     }
 }
 
-// One call, with the lists from its own places on; what is none tells refusal 0. Its number is C's, which lends a call
+// One call, with the lists from its own places on: five of them, as C lends them, since a struct of loans would be made
+// anew for each call's places. What is none tells refusal 0. Its number is C's, which lends a call
 // as four numbers: an enum of the calls would be made from them in one match and taken apart in another.
 #[tactic(auto, using(crate::proofs::Making::proposed, crate::proofs::Making::none_made))]
 fn call(

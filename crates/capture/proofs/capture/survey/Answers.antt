@@ -5,5 +5,5 @@ use Rattle.capture.proofs.capture.survey.Goals as goal
 
 pub returns : goal.returns
 returns c =
-    let went = goes c.args.conf c.fixed_of-f.ensures in
+    let went = goes c.args.conf c.fixed_of.ensures in
     surveyed_as _ c.args.conf _ _ (c.dry_run-d.ensures c.args.conf c.args.c _ went refl (c.unpack-b.ensures refl c.args.conf refl)) c.pack.ensures

@@ -4,5 +4,5 @@ use Rattle.capture.proofs.capture.write_rows.Goals as goal
 
 pub returns : goal.returns
 returns c =
-    let went = goes c.args.conf c.fixed_of-f.ensures in
+    let went = goes c.args.conf c.fixed_of.ensures in
     c.record_run.ensures c.args.conf c.args.c _ went refl (c.unpack-b.ensures refl c.args.conf refl) (sym c.highest_progress-top.ensures)

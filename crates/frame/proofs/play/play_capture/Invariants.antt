@@ -4,4 +4,4 @@ use Rattle.frame.specs.Play.{play_capture}
 use Rattle.frame.proofs.play.play_capture.Given as goal
 
 abbrev pub invariant-loop-k : goal.invariant-loop-k
-invariant-loop-k l = Ok l.captured ≡ play_capture l.k l.words l.conf
+invariant-loop-k l = Ok l.captured ≡ play_capture l.k l.words l.room.conf

@@ -8,8 +8,7 @@ unfolding heard_of
 returns-then-local-received c =
     record {
       merged = λ d l h k.
-          rw (k refl, lt-ltb _ _ c.if-local-received.true) (ap new_info (sym (c.adopt_with_local_vote-slip.ensures d)));
-      kept = λ e. cc;
+          rw (k refl, lt-ltb _ _ c.if-local-received.true) (ap new_info (sym (c.adopt_with_local_vote.ensures d)));
     }
 
 pub returns-then-is_outdated : goal.returns-then-is_outdated
@@ -18,7 +17,6 @@ returns-then-is_outdated c =
     record {
       merged = λ d l h k.
           rw (k refl, le-ltb _ _ c.if-local-received.false, ← c.is_outdated.ensures, c.if-is_outdated.true);
-      kept = λ e. refl;
     }
 
 pub returns-then-x : goal.returns-then-x
@@ -28,12 +26,12 @@ returns-then-x c =
           heard_same _ _ _ l _ _ _ (k refl)
           (le-ltb _ _ c.if-local-received.false)
           (sym c.is_outdated.ensures ∙ c.if-is_outdated.false)
-          (c.merge_same_term-x.ensures d);
-      kept = λ e. cc;
+          (c.merge_same_term-x.ensures d)
+          ∙ rw c.if-x.true;
     }
 
-pub returns : goal.returns
-returns c =
+pub returns-else-x : goal.returns-else-x
+returns-else-x c =
     record {
       merged = λ d l h k.
           heard_same _ _ _ l _ _ _ (k refl)
@@ -41,5 +39,4 @@ returns c =
           (sym c.is_outdated.ensures ∙ c.if-is_outdated.false)
           (c.merge_same_term-x.ensures d)
           ∙ rw c.if-x.false;
-      kept = λ e. refl;
     }

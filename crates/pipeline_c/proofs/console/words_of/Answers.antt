@@ -1,8 +1,0 @@
-use Rattle.std.proofs.Common.{rules}
-use Rattle.pipeline_c.proofs.Tables.{made_is}
-use Rattle.pipeline_c.specs.Console.{words_at}
-use Rattle.pipeline_c.proofs.console.words_of.Goals as goal
-
-pub returns : goal.returns
-unfolding words_at
-returns c = made_is _ _ _ (λ i y q h. search rules) _ 64 0 c.from_fn.ensures.items
