@@ -95,8 +95,8 @@ fn numbers_of(alloc: Global, words: &[&str], count: usize) -> Result<Vec<u64>> {
         .try_collect(alloc)
 }
 
-// Every NaN is one value: the language makes none of bits. (frame has one of its own: a test
-// program of packets leans on no frame.)
+// Every NaN is one value: the language makes none of bits. (frame has one of its own: a test program of packets leans on
+// no frame.)
 #[tactic(auto, using(std::proofs::lemmas::Float::not_nan_f64_bits))]
 fn float_of(bits: u64) -> f64 {
     if bits % 0x8000_0000_0000_0000 <= 0x7ff0_0000_0000_0000 {

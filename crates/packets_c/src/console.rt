@@ -250,6 +250,8 @@ pub extern "C" fn ce_packet_write(
     answered(write_ce(numbers, bytes, buf, at as usize), next)
 }
 
+// (As `read_ce`, and further down `write_pipeline` as `write_ce`: of another family, with its own reader, numbers and
+// rule. One function for both would take these three as arguments.)
 #[tactic(auto, unfolding(crate::specs::Console::pipeline_told, crate::specs::Console::handed))]
 fn read_pipeline(
     text: &[u8],

@@ -72,6 +72,7 @@ fn states_of(xs: &[u64]) -> [NodeTwoPcState; 64]
     array::from_fn(|i| state_of(xs, 789 + i * 131))
 }
 
+// (No From: three numbers of the list say it together.)
 fn piggyback_numbered(there: u64, tx: u64, outcome: u64) -> Option<Outcome>
     ensures { result ≡ piggyback_numbered there tx outcome }
 {
@@ -163,6 +164,7 @@ fn played_of(xs: &[u64]) -> Played
 
 // ---- to numbers
 
+// (No From, see `entry_numbered`.)
 pub fn entry_number(e: LogEntry) -> u64
     ensures { result ≡ entry_number e }
 {
