@@ -92,7 +92,7 @@ fn new_play<P>(part: P) -> Playing<P>
     }
 }
 
-#[tactic(auto, unfolding(crate::specs::Play::proposing))]
+#[tactic(auto, unfolding(crate::specs::Play::proposing), using(crate::proofs::Refused::proposal_stays))]
 fn propose(conf: RoomConf, v: usize, s: &mut Playing<CapturePart>) -> Result<(), Refusal>
     ensures told { left_by result s.new ≡ proposing conf v s.old }
     ensures refused { OnErr result (s.new ≡ s.old) }
@@ -101,7 +101,7 @@ fn propose(conf: RoomConf, v: usize, s: &mut Playing<CapturePart>) -> Result<(),
 }
 
 // The row that a round writes is not read.
-#[tactic(auto, unfolding(crate::specs::Play::capturing))]
+#[tactic(auto, unfolding(crate::specs::Play::capturing), using(crate::proofs::Refused::round_stays))]
 fn capture_next(words: &[u64], conf: RoomConf, s: &mut Playing<CapturePart>) -> Result<(), Refusal>
     ensures told { left_by result s.new ≡ capturing words.now conf s.old }
     ensures refused { OnErr result (s.new ≡ s.old) }
@@ -145,7 +145,7 @@ fn play_capture(words: &[u64], room: AcceptedRoom, t: u8) -> Result<u64, Refusal
 
 // The same as `capture_next`, of another call: one function of both would be given the call as a closure, and be no
 // shorter.
-#[tactic(auto, unfolding(crate::specs::Play::pipeline_turn))]
+#[tactic(auto, unfolding(crate::specs::Play::pipeline_turn), using(crate::proofs::Refused::flood_stays))]
 fn pipeline_turn(
     words: &[u64],
     conf: RoomConf,
