@@ -3,4 +3,5 @@ pub mod Floats
 pub mod Playing
 pub mod Texts
 pub mod Lasting
+pub mod Refused
 pub mod Called

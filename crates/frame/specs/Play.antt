@@ -1,7 +1,7 @@
 -- RULES 13.3, 13.4 and 13.7, and refusals 2 to 7 of RULES 15: the room that a frame asks for, the calls that it makes,
 -- and what comes of them. Assumes nothing: these are definitions.
 use Rattle.std.specs.Prelude.{ℕ, ◌+◌, ◌%◌, Bool, true, not, ◌&&◌, Result, Ok, Err, List, eqb, leb}
-use Rattle.std.specs.Result.{result_and}
+use Rattle.std.specs.Result.{result_and, result_unwrap_or}
 use Rattle.std.specs.Float.{binary64}
 use Rattle.std.specs.Float.Ieee.{of_bits}
 use Rattle.loops.specs.Pick.{either}
@@ -81,6 +81,10 @@ unfoldable pub capturing : List ℕ → RoomConf → Playing CapturePart → Res
 capturing ws conf s =
     let r = capture_part ws row_cells s.used conf s.network s.part s.cursor in
     result_and r.told (Ok (record { cursor = r.cursor; used = r.used; network = r.network; part = r.part }))
+
+-- what the proposal of turn k leaves: all as it was, if it is refused
+abbrev pub behind_proposal : RoomConf → ℕ → Playing CapturePart → Playing CapturePart
+behind_proposal conf k s = result_unwrap_or (proposing conf (k % positions_of conf) s) s
 
 -- the positions take turns in proposing, and each proposal gets one round
 unfoldable pub capture_turn : List ℕ → RoomConf → ℕ → Playing CapturePart → Result (Playing CapturePart) Refusal

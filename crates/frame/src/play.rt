@@ -1,9 +1,9 @@
 // RULES 13.3 and 13.4. The room that a frame asks for, and the calls that it makes.
-ghost use Rattle.std.specs.Prelude.{◌≡◌, ◌<◌, Ok};
+ghost use Rattle.std.specs.Prelude.{◌≡◌, ◌<◌, Ok, OnErr};
 ghost use Rattle.std.specs.Float.{binary64};
 ghost use Rattle.std.specs.Float.Ieee.{of_bits};
 ghost use Rattle.room.specs.Kinds.{positions_of};
-ghost use Rattle.frame.specs.Play.{left_by, unless_refused, capture_end, pipeline_end, settings_of, asked_of, new_play, proposing, capturing, capture_turn, play_capture, pipeline_turn, play_pipeline, play_of, accepted_by, played_in, links_of, played_of};
+ghost use Rattle.frame.specs.Play.{left_by, unless_refused, capture_end, pipeline_end, settings_of, asked_of, new_play, proposing, behind_proposal, capturing, capture_turn, play_capture, pipeline_turn, play_pipeline, play_of, accepted_by, played_in, links_of, played_of};
 
 use crate::line::Frame;
 use engines::network::Network;
@@ -92,17 +92,19 @@ fn new_play<P>(part: P) -> Playing<P>
     }
 }
 
-#[tactic(auto, unfolding(crate::specs::Play::proposing))]
+#[tactic(auto, unfolding(crate::specs::Play::proposing), using(crate::proofs::Refused::proposal_stays))]
 fn propose(conf: RoomConf, v: usize, s: &mut Playing<CapturePart>) -> Result<(), Refusal>
-    ensures { left_by result s.new ≡ proposing conf v s.old }
+    ensures told { left_by result s.new ≡ proposing conf v s.old }
+    ensures refused { OnErr result (s.new ≡ s.old) }
 {
     capture_calls::propose(conf, &mut s.part, v)
 }
 
 // The row that a round writes is not read.
-#[tactic(auto, unfolding(crate::specs::Play::capturing))]
+#[tactic(auto, unfolding(crate::specs::Play::capturing), using(crate::proofs::Refused::round_stays))]
 fn capture_next(words: &[u64], conf: RoomConf, s: &mut Playing<CapturePart>) -> Result<(), Refusal>
-    ensures { left_by result s.new ≡ capturing words.now conf s.old }
+    ensures told { left_by result s.new ≡ capturing words.now conf s.old }
+    ensures refused { OnErr result (s.new ≡ s.old) }
 {
     let mut row = [0u64; limits::ROW];
     let w = &mut s.network;
@@ -124,7 +126,8 @@ fn capture_turn(
     k: usize,
     s: &mut Playing<CapturePart>,
 ) -> Result<(), Refusal>
-    ensures { left_by result s.new ≡ capture_turn words.now room.conf k s.old }
+    ensures told { left_by result s.new ≡ capture_turn words.now room.conf k s.old }
+    ensures refused { OnErr result (s.new ≡ behind_proposal room.conf k s.old) }
 {
     propose(room.conf, k % room.conf.round.graph.n, s)?;
     capture_next(words, room.conf, s)
@@ -142,13 +145,14 @@ fn play_capture(words: &[u64], room: AcceptedRoom, t: u8) -> Result<u64, Refusal
 
 // The same as `capture_next`, of another call: one function of both would be given the call as a closure, and be no
 // shorter.
-#[tactic(auto, unfolding(crate::specs::Play::pipeline_turn))]
+#[tactic(auto, unfolding(crate::specs::Play::pipeline_turn), using(crate::proofs::Refused::flood_stays))]
 fn pipeline_turn(
     words: &[u64],
     conf: RoomConf,
     s: &mut Playing<PipelinePart>,
 ) -> Result<(), Refusal>
-    ensures { left_by result s.new ≡ pipeline_turn words.now conf s.old }
+    ensures told { left_by result s.new ≡ pipeline_turn words.now conf s.old }
+    ensures refused { OnErr result (s.new ≡ s.old) }
 {
     let mut row = [0u64; limits::ROW];
     let w = &mut s.network;

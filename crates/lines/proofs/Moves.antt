@@ -4,8 +4,8 @@ use mathlib.Core.Path.{◌≡◌, sym, ap, ap₂, ◌∙◌}
 use Prim.Native.Nat.{ℕ, ◌+◌, ◌-◌, min, ◌≤◌, ◌<◌}
 use native.Mathlib.Decide.{dec_le}
 use native.Mathlib.Omega.{arith}
-use lib.ListN.{length, take, drop, length-take, length-drop, drop_of_length-le}
-use lib.Seq.{take_all, take-length}
+use lib.ListN.{length, take, drop, length-take, length-drop, take-append-drop, drop_of_length-le}
+use lib.Seq.{length-take-le, take_all, take-length}
 use Rattle.std.specs.List.{copy_within}
 use Rattle.lines.specs.Feeding.{kept_from, kept_in}
 use Rattle.texts.specs.Put.{written, written_nil}
@@ -24,6 +24,13 @@ take_min k l = go (dec_le k (length l))
     go : Dec (k ≤ length l) → take (min k (length l)) l ≡ take k l
     go (yes h) = ap (λ (j : ℕ). take j l) (least k (length l) h)
     go (no h) = ap (λ (j : ℕ). take j l) (most k (length l) h).0 ∙ take-length l ∙ sym (take_all k l (most k (length l) h).1)
+
+front_stays : (n : ℕ) (d : List ℕ) → n ≤ length d → written d 0 (take n d) ≡ d
+unfolding written
+front_stays n d h = ap (λ (k : ℕ). take n d ++ drop k d) (count (length-take-le n d h)) ∙ take-append-drop n d
+  where
+    count : length (take n d) ≡ n → 0 + length (take n d) ≡ n
+    count e = omega arith
 
 pub keep_none : (d : List ℕ) (from : ℕ) → length d < from → (0 ≡ length (kept_from d from)) × (d ≡ kept_in d from)
 keep_none d from h =
@@ -45,3 +52,7 @@ module _ (d : List ℕ) (from n k : ℕ) (h : from ≤ length d) (e : n ≡ min 
     where
       back : (a b : ℕ) → a + b - a ≡ b
       back a b = omega arith
+
+  pub keep_stays : from ≡ 0 → d ≡ written d 0 (take k (drop from d))
+  keep_stays z =
+      sym (front_stays n d (omega arith)) ∙ ap (λ (j : ℕ). written d 0 (take n (drop j d))) (sym z) ∙ ap (written d 0) same

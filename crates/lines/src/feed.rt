@@ -85,6 +85,11 @@ pub fn keep(text: &mut [u8], from: usize) -> usize
         return 0;
     }
     let n = (text.len() - from).min(bounds::KEPT);
+    // A read that ended no line leaves it at the front, where it stays: a long line in many small reads is not copied
+    // onto itself at each.
+    if from == 0 {
+        return n;
+    }
     text.copy_within(from..from + n, 0);
     n
 }

@@ -1,7 +1,7 @@
 // RULES 14.2 and 14.3. Reads frames from standard input, one to a line, and prints the listing line of each.
 #![tactic(auto)]
 
-ghost use Rattle.std.specs.Prelude.{◌≡◌, ◌+◌, ◌≤◌, ◌<◌, length, take, drop, IfOk, IfSome};
+ghost use Rattle.std.specs.Prelude.{◌≡◌, ◌+◌, ◌≤◌, ◌<◌, length, take, drop, Some, IfOk, IfSome};
 ghost use Rattle.frame.specs.Bounds.{kept_bytes, frame_words};
 ghost use Rattle.lines.specs.Feeding.{end_out};
 ghost use Rattle.planner.specs.Turns.{left_of, TakesIn};
@@ -31,6 +31,17 @@ impl fmt::Display for Failure {
             Failure::Write(e) => write!(f, "planner: cannot write: {e}"),
         }
     }
+}
+
+// A read that a signal cut short is made again, and what there is of the present line stays, n bytes. One that fails
+// ends the program: of a line that could not be read to its end nothing is listed.
+fn not_read(n: usize, e: Error) -> Result<Option<usize>, Failure>
+    ensures { IfOk result (λ left. left ≡ Some n) }
+{
+    if e.kind() == ErrorKind::Interrupted {
+        return Ok(Some(n));
+    }
+    Err(Failure::Read(e))
 }
 
 // What the program reads and writes to, and the words and the output that each answer is lent: two buffers of their
@@ -99,9 +110,8 @@ impl Planner {
         self.take_in(&mut buf[..end], n)
     }
 
-    // One read behind the n bytes of the present line, which may bring few bytes. One that a signal cut short is made
-    // again; one that fails ends the program: of a line that could not be read to its end nothing is listed. The clause
-    // says what the turn before answered: a struct of n alone would have its fact and be no plainer.
+    // One read behind the n bytes of the present line, which may bring few bytes. The clause says what the turn before
+    // answered: a struct of n alone would have its fact and be no plainer.
     fn one_turn(&mut self, buf: &mut [u8; INPUT], n: usize) -> Result<Option<usize>, Failure>
         requires { n ≤ kept_bytes }
         ensures { IfOk result (λ left. IfSome left (λ kept. kept ≤ kept_bytes)) }
@@ -109,12 +119,7 @@ impl Planner {
         let mut input = self.input;
         match input.read(&mut buf[n..]) {
             Ok(got) => self.after_read(buf, n, got),
-            Err(e) => {
-                if e.kind() == ErrorKind::Interrupted {
-                    return Ok(Some(n));
-                }
-                Err(Failure::Read(e))
-            }
+            Err(e) => not_read(n, e),
         }
     }
 

@@ -21,13 +21,13 @@ returns-then-ran c = ap (unless_refused pipeline_end) (going_stop c.args.words.n
 
 pub returns-in_err-pipeline_turn : goal.returns-in_err-pipeline_turn
 returns-in_err-pipeline_turn c =
-    let told = ap (λ (r : Result (Unit {0}) Refusal). left_by r c.pipeline_turn.new.s) (sym c.in_err-pipeline_turn.was) ∙ c.pipeline_turn.ensures in
+    let told = ap (λ (r : Result (Unit {0}) Refusal). left_by r c.pipeline_turn.new.s) (sym c.in_err-pipeline_turn.was) ∙ c.pipeline_turn.ensures.told in
     let refused : ◌≡◌ {A = Result ℕ Refusal} c.from_residual.result (Err c.in_err-pipeline_turn.field-0.0) = grind (arith, common_steps) in
     refused ∙ ap (unless_refused pipeline_end) (going_refused c.args.words.now c.args.conf _ c.in_err-pipeline_turn.field-0.0 (going_on c.args.words.now c.args.conf c.loop-k.ran c.loop-k-test.true c.if-ran.false told c.loop-k.invariant))
 
 pub loop-k-preserved : goal.loop-k-preserved
 loop-k-preserved c =
-    let told = ap (λ (r : Result (Unit {0}) Refusal). left_by r c.pipeline_turn.new.s) (sym c.in_ok-pipeline_turn.was) ∙ c.pipeline_turn.ensures in
+    let told = ap (λ (r : Result (Unit {0}) Refusal). left_by r c.pipeline_turn.new.s) (sym c.in_ok-pipeline_turn.was) ∙ c.pipeline_turn.ensures.told in
     going_on c.args.words.now c.args.conf c.loop-k.ran c.loop-k-test.true c.if-ran.false told c.loop-k.invariant
 
 pub returns : goal.returns
