@@ -19,19 +19,20 @@ use Rattle.frame.specs.declared.play.Playing.{Playing}
 
 -- ---- the call at which a turn ends: its last, or the one that is refused
 
--- What a call tells of a room. A reading moves nothing, and no turn makes one.
+-- What a room answers to a call: whether it is refused, and why. (A reading moves nothing, and no turn makes one.)
 unfoldable pub told_of : Call → Room → Tested
 told_of (Propose v) r = (propose_of r v).told
 told_of (CaptureRound ws cursor rows used) r = (capture_of ws (length rows) used r cursor).told
 told_of (PipelineRound ws cursor rows used) r = (pipeline_of ws (length rows) used r cursor).told
 told_of (Read q) r = Ok tt
 
--- The state in which it is made, and the call.
+-- the state in which the call is made, and the call
 pub record LastCall (S : Type 0) : Type 0 where
   pub at : S
   pub call : Call
 
--- A capture turn's is its round, in what the proposal left; the proposal itself if that is refused.
+-- A capture turn ends at its round, made in what the proposal left; if the proposal is refused, at that. The lent
+-- buffer holds one row.
 abbrev pub round_or_proposal : List ℕ → ℕ → Result (Playing CapturePart) Refusal → Call
 round_or_proposal ws v (Ok s) = CaptureRound ws s.cursor (replicate row_cells 0) s.used
 round_or_proposal ws v (Err k) = Propose v
@@ -41,10 +42,11 @@ capture_last ws conf k s =
     let v = k % positions_of conf in
     record { at = behind_proposal conf k s; call = round_or_proposal ws v (proposing conf v s) }
 
+-- A pipeline turn is one round.
 abbrev pub pipeline_last : List ℕ → ℕ → Playing PipelinePart → LastCall (Playing PipelinePart)
 pipeline_last ws k s = record { at = s; call = PipelineRound ws s.cursor (replicate row_cells 0) s.used }
 
--- It is refused: calls made the room in which it is made, that room tells of it so, and it leaves that room as it was.
+-- It is refused: calls made the room in which it is made, that room answers so, and is left as it was.
 pub record RefusedCall {S : Type 0} (r : Room) (made : S → Room) (last : LastCall S) (k : Refusal) : Type 0 where
   pub by_calls : ByCalls r (made last.at)
   pub told : told_of last.call (made last.at) ≡ Err k
@@ -52,8 +54,8 @@ pub record RefusedCall {S : Type 0} (r : Room) (made : S → Room) (last : LastC
 
 -- ---- turns
 
--- A turn that is refused. It is one of the n turns, those before it left its state, and calls made that of room r. So
--- they did the room in which its refused call was made.
+-- A turn that is refused. It is one of the n turns, those before it left its state, and calls made that of room r. The
+-- call at which it ended is refused so: calls made the room of that call too.
 pub record RefusedTurn {S : Type 0} (r : Room) (made : S → Room) (turn : ℕ → S → Result S Refusal) (last : ℕ → S → LastCall S) (left : ℕ → Result S Refusal) (n : ℕ) (k : Refusal) : Type 0 where
   pub number : ℕ
   pub among : number < n

@@ -119,6 +119,7 @@ fn capture_next(words: &[u64], conf: RoomConf, s: &mut Playing<CapturePart>) -> 
     )
 }
 
+// A refused turn leaves what its proposal left.
 #[tactic(auto, unfolding(crate::specs::Play::capture_turn))]
 fn capture_turn(
     words: &[u64],
