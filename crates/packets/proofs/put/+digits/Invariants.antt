@@ -1,4 +1,4 @@
-use Rattle.packets.proofs.put.Writer.+decimal.Given as goal
+use Rattle.packets.proofs.put.+digits.Given as goal
 
-abbrev pub decreases-decimal : goal.decreases-decimal
-decreases-decimal l = l.n
+abbrev pub decreases-digits : goal.decreases-digits
+decreases-digits l = l.n
