@@ -98,8 +98,13 @@ impl Field for TwoPcPhase {
         self.text().len()
     }
 
+    // Phase by phase, so that each name is put as text whose length is known: by `self.text()` it went byte by byte.
     fn put(self, w: &mut Writer) {
-        w.all(self.text())
+        match self {
+            TwoPcPhase::Prepare => w.all(TwoPcPhase::Prepare.text()),
+            TwoPcPhase::Committed => w.all(TwoPcPhase::Committed.text()),
+            TwoPcPhase::Aborted => w.all(TwoPcPhase::Aborted.text()),
+        }
     }
 
     fn read(s: &[u8], at: usize) -> Option<(TwoPcPhase, usize)> {
@@ -142,6 +147,7 @@ impl Field for Data {
         len::data_len(self)
     }
 
+    #[inline(always)]
     fn put(self, w: &mut Writer) {
         w.data(self)
     }
@@ -186,6 +192,7 @@ impl<T: Field> Field for Option<T> {
 }
 
 // A field: its name, with what stands around it, and the value.
+#[inline(always)]
 pub(crate) fn put_field<T: Field>(w: &mut Writer, key: &[u8], value: T)
     requires { T.Fits value × RoomIn w.old (key.now ++ T.text value) }
     ensures { Wrote w.old (key.now ++ T.text value) w.new }

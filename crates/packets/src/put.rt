@@ -3,6 +3,7 @@
 ghost use Rattle.std.specs.Prelude.{[], ◌∷◌, ◌≤◌, ◌<◌, length};
 ghost use Rattle.limits.specs.Limits.{data_bytes};
 ghost use Rattle.marks.specs.Marks.{marks_of};
+ghost use Rattle.texts.specs.Put.{Put, Room};
 ghost use Rattle.texts.specs.Decimal.{decimal};
 ghost use Rattle.texts.specs.Readers.{bool_text, items_text, list_text};
 ghost use Rattle.packets.specs.Packets.{bitmap_text, data_text};
@@ -13,6 +14,8 @@ use crate::{Bitmap, Data};
 
 // A lent buffer, and the place in it where the next text goes. A loop goes on a writer of its own, whose place stays
 // in a register: behind `self` it is stored and read again for each byte, and a packet of 64 marks took twice as long.
+// For the same reason the digits of a number go by buffer and place, and what puts a field and its data is inlined into
+// the two writers of packets: without that, small packets took up to a third longer.
 #[derive(Drop)]
 pub struct Writer<'a> {
     pub buf: &'a mut [u8],
@@ -20,7 +23,7 @@ pub struct Writer<'a> {
 }
 
 impl<'a> Writer<'a> {
-    pub fn byte(&mut self, b: u8)
+    pub(crate) fn byte(&mut self, b: u8)
         requires { self.old.at < length self.old.buf.now }
         ensures { Wrote self.old (b ∷ []) self.new }
     {
@@ -29,7 +32,7 @@ impl<'a> Writer<'a> {
     }
 
     // By copy_from_slice, `,true` and `,false` as one text each, 64 marks took 0.185 us, byte by byte 0.117.
-    pub fn all(&mut self, src: &[u8])
+    pub(crate) fn all(&mut self, src: &[u8])
         requires { RoomIn self.old src.now }
         ensures { Wrote self.old src.now self.new }
     {
@@ -43,19 +46,14 @@ impl<'a> Writer<'a> {
         self.at = w.at;
     }
 
-    // The digits before the last one first, so that nothing has to be turned round.
-    pub fn decimal(&mut self, n: u64)
+    pub(crate) fn decimal(&mut self, n: u64)
         requires { RoomIn self.old (decimal n) }
         ensures { Wrote self.old (decimal n) self.new }
     {
-        if n <= 255 {
-            return self.small(n as u8);
-        }
-        self.decimal(n / 10);
-        self.byte((n % 10) as u8 + b'0');
+        self.at = digits(self.buf, self.at, n);
     }
 
-    // A byte in decimal: at most three digits, so with no recursion. Where decimal(n) goes by tens it ends here.
+    // A byte in decimal: at most three digits, so with no recursion. Where digits goes by tens it ends here.
     fn small(&mut self, b: u8)
         requires { RoomIn self.old (decimal b) }
         ensures { Wrote self.old (decimal b) self.new }
@@ -104,6 +102,7 @@ impl<'a> Writer<'a> {
     }
 
     // What follows the first byte of an array.
+    #[inline(always)]
     fn rest(&mut self, bytes: &[u8])
         requires { RoomIn self.old (items_text decimal bytes.now) }
         ensures { Wrote self.old (items_text decimal bytes.now) self.new }
@@ -121,6 +120,7 @@ impl<'a> Writer<'a> {
     }
 
     // Bytes as an array.
+    #[inline(always)]
     fn bytes(&mut self, bytes: &[u8])
         requires { RoomIn self.old (list_text decimal bytes.now) }
         ensures { Wrote self.old (list_text decimal bytes.now) self.new }
@@ -133,6 +133,7 @@ impl<'a> Writer<'a> {
         self.rest(rest);
     }
 
+    #[inline(always)]
     #[tactic(auto, unfolding(crate::specs::Packets::data_text))]
     pub(crate) fn data(&mut self, d: Data)
         requires { (d.len ≤ data_bytes) × RoomIn self.old (data_text d) }
@@ -141,4 +142,21 @@ impl<'a> Writer<'a> {
         let bytes = d.bytes;
         self.bytes(&bytes[..d.len]);
     }
+}
+
+// A number from index at on, and the index behind it. The digits before the last one first, so that nothing has to be
+// turned round.
+fn digits(buf: &mut [u8], at: usize, n: u64) -> usize
+    requires { Room buf.old at (decimal n) }
+    ensures { Put buf.old at (decimal n) result buf.new }
+{
+    if n <= 255 {
+        let mut w = Writer { buf, at };
+        w.small(n as u8);
+        return w.at;
+    }
+    let at = digits(buf, at, n / 10);
+    let mut w = Writer { buf, at };
+    w.byte((n % 10) as u8 + b'0');
+    w.at
 }

@@ -1,7 +1,7 @@
--- A refused merge on texts leaves all as it was.
+-- A merge on texts that is not refused answers by the merge of packets, and a refused one leaves all as it was.
 -- Assumes nothing.
 use Rattle.std.specs.Prelude.{⊤, Result, Ok, Err}
-use Rattle.std.proofs.Common.{◌≡◌, refl, ℕ, ◌+◌, Bool, true, false, List, leb, length}
+use Rattle.std.proofs.Common.{◌≡◌, refl, sym, ◌∙◌, ap, ℕ, ◌+◌, Bool, true, false, List, leb, length}
 use Rattle.limits.specs.declared.refusals.Refusal.{Refusal}
 use Rattle.limits.specs.declared.refusals.Refusal.TheVariants.{BadPacket, NoFit}
 use Rattle.loops.specs.Pick.{either}
@@ -10,7 +10,20 @@ use Rattle.packets.specs.Packets.{ce_text, ce_within}
 use Rattle.packets.specs.Writing.{wrote_of, left_of}
 use Rattle.packets_c.specs.Desk.{refusal_of, Desk, rewriting, rewritten, answered, desk_after, met, desk_of, RefusedLeaves}
 use Rattle.packets.specs.declared.CeTwoPcPacket.{CeTwoPcPacket}
-use Rattle.merges.specs.Merging.{MergeResult, Redundant, NewInfo, Merged}
+use Rattle.merges.specs.Votes.{no_of}
+use Rattle.merges.specs.Merging.{MergeResult, Redundant, NewInfo, Merged, merge_of, payload_of}
+use Rattle.merges.specs.declared.votes.Voting.{Voting}
+use Rattle.merges.specs.declared.merging.Payload.{Payload}
+
+-- a call that is not refused hands back what the merge makes of what the two texts are
+module _ (s : Voting) (v : ℕ) (local : List ℕ) (len : ℕ) (received : List ℕ) (rlen was : ℕ) (k : Result ⊤ Refusal) (e : k ≡ refusal_of s.n v (length local) len (length received) rlen) where
+  module _ (none : k ≡ Ok tt) (ours theirs : Payload) (f : ours ≡ payload_of local len) (g : theirs ≡ payload_of received rlen) (m : Merged) (d : m ≡ merge_of (no_of s) s.n v ours theirs) where
+    merged_is : m ≡ merge_of (no_of s) s.n v (payload_of local len) (payload_of received rlen)
+    merged_is = d ∙ ap (λ (x : Payload). merge_of (no_of s) s.n v x theirs) f ∙ ap (λ (x : Payload). merge_of (no_of s) s.n v (payload_of local len) x) g
+
+    pub desk_done : desk_of s v local len received rlen was ≡ answered local len was m.payload.packet m.result
+    unfolding desk_of
+    desk_done = rw (← e, none) (ap (λ (x : Merged). answered local len was x.payload.packet x.result) (sym merged_is))
 
 abbrev Leaves : List ℕ → ℕ → ℕ → Desk → Type 0
 Leaves local len was d = (d.refusal ≡ 0 → ⊥) → (d.text ≡ local) × (d.len ≡ len) × (d.news ≡ was)

@@ -1,4 +1,0 @@
-use Rattle.packets.proofs.put.Writer.+decimal.Given as goal
-
-abbrev pub decreases-decimal : goal.decreases-decimal
-decreases-decimal l = l.n
