@@ -20,7 +20,7 @@ use super::capture::CeState;
 use engines::metrics::MetricsCollector;
 use engines::network::{Network, RoundConf};
 use engines::node;
-use engines::node::{Node, NodeState, StateSets};
+use engines::node::{Change, Node, NodeState, StateSets};
 use engines::words::Draw;
 use graph::sets;
 use merges::merging;
@@ -339,6 +339,25 @@ fn node_by(s: StateSets, goal_reached: u64, table: &[u64; 576], i: usize, v: Nod
     }
 }
 
+// Each position from its columns and sets.
+#[derive(Clone, Copy)]
+struct Packing<'a> {
+    states: StateSets,
+    goal_reached: u64,
+    table: &'a [u64; 576],
+}
+
+impl Change for Packing<'_> {
+    ghost changed = { λ p i v. node_by p.states p.goal_reached p.table.now i v };
+
+    fn change(&self, i: usize, v: Node) -> Node {
+        if i >= 64 {
+            return v;
+        }
+        node_by(self.states, self.goal_reached, self.table, i, v)
+    }
+}
+
 fn pack_nodes(
     nodes: [Node; 64],
     n: usize,
@@ -348,7 +367,12 @@ fn pack_nodes(
 ) -> [Node; 64]
     ensures { result ≡ nodes_by n nodes s goal_reached table.now }
 {
-    node::change_all(nodes, n, |i, v| node_by(s, goal_reached, table, i, v))
+    let change = Packing {
+        states: s,
+        goal_reached,
+        table,
+    };
+    node::change_all(nodes, n, &change)
 }
 
 #[tactic(auto, unfolding(crate::specs::Boards::payload_by, crate::specs::Boards::slip_by))]

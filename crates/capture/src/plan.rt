@@ -237,7 +237,9 @@ fn find_targets(listening: u64, recovering: u64) -> u64
     sets::difference(listening, recovering)
 }
 
-// The plan of a slot; whom each position hears goes into the lent list, which has 64 (nobody) for each.
+// The plan of a slot; whom each position hears goes into the lent list, which has 64 (nobody) for each. (The cursor is
+// told by its two fields: copied whole, it took the bytes behind its flag along through every sender examined, and a
+// round in a mesh of 64 in which most frames are lost took 1.2 times as long.)
 pub(crate) fn plan_slot(
     words: &[u64],
     links: &[u64; 64],
@@ -261,7 +263,10 @@ pub(crate) fn plan_slot(
     SlotPlan {
         recovering: c.recovering,
         targets,
-        draw: q.draw,
+        draw: Draw {
+            at: q.draw.at,
+            short: q.draw.short,
+        },
         ce_timeouts: sets::count_marks(c.recovering) as u64,
         rx_attempts: q.rx_attempts,
         rx_success: q.rx_success,

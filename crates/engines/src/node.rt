@@ -99,24 +99,43 @@ impl Node {
     }
 }
 
-// Each of the first n positions changed by f, which is told its number. The condition is f's, not the caller's: it may
-// count on a number below 64.
-pub fn change_all<F: Fn(usize, Node) -> Node>(nodes: [Node; 64], n: usize, f: F) -> [Node; 64]
-    requires { (i : ℕ) (v : Node) → i < 64 → F.pre f i v }
-    ensures { (h : ℕ → Node → Node) → ((i : ℕ) (v w : Node) → F.post f i v w → w ≡ h i v) → result ≡ upto (at_most64 n) (place no_node h) nodes }
+// What a position becomes, by its number. A trait and no closure: a closure may demand something of its caller, so that
+// `change_all` would have to demand it in turn, while a change demands nothing. What it makes of a number above 63,
+// which no position has, is left open.
+pub trait Change {
+    ghost changed: { Self → ℕ → Node → Node };
+
+    fn change(&self, i: usize, v: Node) -> Node
+        ensures { i < 64 → result ≡ changed self.now i v };
+}
+
+// Each of the first n positions changed.
+pub fn change_all<C: Change>(nodes: [Node; 64], n: usize, c: &C) -> [Node; 64]
+    ensures { result ≡ upto (at_most64 n) (place no_node (C.changed c.now)) nodes }
 {
     let mut changed = nodes;
     for (i, v) in changed[..n.min(64)].iter_mut().enumerate() {
-        *v = f(i, *v);
+        *v = c.change(i, *v);
     }
     changed
+}
+
+#[derive(Clone, Copy)]
+struct Ticking;
+
+impl Change for Ticking {
+    ghost changed = { λ _ _ v. ticked v };
+
+    fn change(&self, _: usize, v: Node) -> Node {
+        v.tick()
+    }
 }
 
 // One slot's tick of the first n positions.
 pub fn tick_all(at: [Node; 64], n: usize) -> [Node; 64]
     ensures { result ≡ ticked_all n at }
 {
-    change_all(at, n, |_, v| v.tick())
+    change_all(at, n, &Ticking)
 }
 
 // The positions in each state, a mark each.

@@ -3,7 +3,7 @@ ghost use Rattle.std.specs.Prelude.{◌≡◌};
 ghost use Rattle.engines.specs.Stretch.{passed, passed_all};
 
 use super::node;
-use super::node::{Node, NodeState};
+use super::node::{Change, Node, NodeState};
 
 // A position after k slots in its state.
 #[tactic(auto, unfolding(crate::specs::Stretch::passed))]
@@ -23,9 +23,21 @@ fn pass(v: Node, k: u64) -> Node
     w
 }
 
+// So many slots, for each.
+#[derive(Clone, Copy)]
+struct Passing(u64);
+
+impl Change for Passing {
+    ghost changed = { λ p _ v. passed p.0 v };
+
+    fn change(&self, _: usize, v: Node) -> Node {
+        pass(v, self.0)
+    }
+}
+
 // The first n positions after k such slots. (64 places and n: see node.rt.)
 pub fn pass_all(at: [Node; 64], n: usize, k: u64) -> [Node; 64]
     ensures { result ≡ passed_all n k at }
 {
-    node::change_all(at, n, |_, v| pass(v, k))
+    node::change_all(at, n, &Passing(k))
 }

@@ -1,12 +1,14 @@
 // RULES 9. Ported from phy/ci.rs: the identical flood, slot by slot. What is flooded is the same for everybody, so
 // only its length counts here. Words are lent for one call and the cursor stays between slots, so both are passed.
 ghost use Rattle.std.specs.Prelude.{◌≡◌, ◌<◌};
+ghost use Rattle.marks.specs.Marks.{has};
 ghost use Rattle.engines.specs.Marked.{over_marks};
+ghost use Rattle.engines.specs.Nodes.{reset_round};
 ghost use Rattle.engines.specs.Rounds.{placed, Surveyed};
 ghost use Rattle.flood.specs.Flood.{flood_length, framed, hear_at, hearers_of, flood_plan, in_state, after_flood, after_listen, next_node, turned_all, nobody_floods, sent_by, flood_slot, is_over, reset_all, flood_start, flood_rows, flooded_of};
 
 use engines::network::{Network, RoundConf, Survey};
-use engines::node::{Node, NodeState, StateSets};
+use engines::node::{Change, Node, NodeState, StateSets};
 use engines::words::Draw;
 use engines::{network, node, rows, words};
 use graph::sets;
@@ -153,13 +155,26 @@ fn turn(v: Node, heard: bool, repeats: u32) -> Node
     }
 }
 
+// The next state of each, by who received.
+#[derive(Clone, Copy)]
+struct Turning {
+    received: u64,
+    repeats: u32,
+}
+
+impl Change for Turning {
+    ghost changed = { λ t i v. next_node t.repeats (has t.received i) v };
+
+    fn change(&self, i: usize, v: Node) -> Node {
+        turn(v, sets::is_marked(self.received, i), self.repeats)
+    }
+}
+
 // The next states of the first n positions. (Here and below 64 places and n: see engines src/node.rt.)
 fn turn_all(at: [Node; 64], n: usize, received: u64, repeats: u32) -> [Node; 64]
     ensures { result ≡ turned_all n repeats received at }
 {
-    node::change_all(at, n, |i, v| {
-        turn(v, sets::is_marked(received, i), repeats)
-    })
+    node::change_all(at, n, &Turning { received, repeats })
 }
 
 #[tactic(auto, unfolding(crate::specs::Flood::nobody_floods))]
@@ -274,10 +289,21 @@ pub fn flood_identical_round(
     Some(s)
 }
 
+#[derive(Clone, Copy)]
+struct Resetting;
+
+impl Change for Resetting {
+    ghost changed = { λ _ _ v. reset_round v };
+
+    fn change(&self, _: usize, v: Node) -> Node {
+        v.reset_round()
+    }
+}
+
 fn reset_all(at: [Node; 64], n: usize) -> [Node; 64]
     ensures { result ≡ reset_all n at }
 {
-    node::change_all(at, n, |_, v| v.reset_round())
+    node::change_all(at, n, &Resetting)
 }
 
 // Everybody listens but the initiator.

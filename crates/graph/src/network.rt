@@ -136,12 +136,13 @@ fn has_pair(t: Topology, n: usize, i: usize, j: usize) -> bool
     ahead(t, n, j, i)
 }
 
-// The marks of those of n that i has a link to.
+// The marks of those of n that i has a link to. (The bound says that each j is a mark of a word, so that the compiler
+// drops `with_mark`'s test of it: with the test a full mesh took 1.3 times as long.)
 fn row_by(t: Topology, n: usize, i: usize) -> u64
     ensures { (j : ℕ) → has result j ≡ ((ltb j n && ltb j 64) && link_of t n i j) }
 {
     let mut m: u64 = 0;
-    for j in 0..n {
+    for j in 0..n.min(limits::POSITIONS) {
         if has_pair(t, n, i, j) {
             m = sets::with_mark(m, j);
         }

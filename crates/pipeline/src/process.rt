@@ -1,12 +1,12 @@
 // RULES 10.5. process_round of sim/two_pc_pipeline.rs: what the positions that took part do with the flooded packet.
-ghost use Rattle.std.specs.Prelude.{◌≡◌};
-ghost use Rattle.pipeline.specs.Pipeline.{is_new, hear_new, merge_round, record_aborts, take_up, is_answer, answer_nack, process_one, parts_of, process_all, shortest_log, progressed, progress_all, stops_at};
+ghost use Rattle.std.specs.Prelude.{◌≡◌, get_or, nat_le};
+ghost use Rattle.pipeline.specs.Pipeline.{is_new, hear_new, merge_round, record_aborts, take_up, is_answer, answer_nack, process_one, parts_of, process_all, shortest_log, no_state, progressed, progress_all, stops_at};
 
 use super::pending::Voter;
 use super::two_pc_pipeline::{NodeTwoPcState, Outcome, Records, RoundPacket};
 use super::{logs, pending, prepare};
 use engines::node;
-use engines::node::Node;
+use engines::node::{Change, Node};
 use engines::words::Draw;
 use graph::sets;
 
@@ -214,6 +214,25 @@ fn progress(v: Node, done: u64, goal: bool) -> Node
     }
 }
 
+// The progress of each, and whether its log is complete.
+#[derive(Clone, Copy)]
+struct Progressing<'a> {
+    num_txs: usize,
+    done: usize,
+    states: &'a [NodeTwoPcState; 64],
+}
+
+impl Change for Progressing<'_> {
+    ghost changed = { λ p i v. progressed p.done (nat_le p.num_txs (get_or p.states.now i no_state).log.len) v };
+
+    fn change(&self, i: usize, v: Node) -> Node {
+        if i >= 64 {
+            return v;
+        }
+        progress(v, self.done as u64, self.num_txs <= self.states[i].log.len)
+    }
+}
+
 // Everybody's progress, and whether its own log is complete. (64 places and n: see engines src/node.rt.)
 pub fn progress_all(
     at: [Node; 64],
@@ -224,9 +243,12 @@ pub fn progress_all(
 ) -> [Node; 64]
     ensures { result ≡ progress_all n num_txs done states at }
 {
-    node::change_all(at, n, |i, v| {
-        progress(v, done as u64, num_txs <= states[i].log.len)
-    })
+    let change = Progressing {
+        num_txs,
+        done,
+        states: &states,
+    };
+    node::change_all(at, n, &change)
 }
 
 // All have all, and all were generated; or it has idled too long. Written so that no sum can wrap.

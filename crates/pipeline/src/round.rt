@@ -264,7 +264,7 @@ impl RoundStart<'_> {
 
     // The rows of an accepted round, if any is due; that they fit is what the round has just tested. (A struct of the
     // buffer and how much of it is used would be made for this one call, which no other function follows.)
-    pub fn write_due(&self, rows: &mut [u64], used: usize, due: usize)
+    pub(crate) fn write_due(&self, rows: &mut [u64], used: usize, due: usize)
         requires are_due { due * row_cells ≡ length (rows_of_round self.now.words.now self.now.conf self.now.network self.now.part self.now.draw) }
         requires fit { (used + due) * row_cells ≤ length rows.old }
         ensures { rows.new ≡ sets rows.old (used * row_cells) (rows_of_round self.now.words.now self.now.conf self.now.network self.now.part self.now.draw) }

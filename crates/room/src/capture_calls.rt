@@ -7,7 +7,7 @@ use super::room::{RoomConf, RoomKind};
 use capture::capture as engine;
 use capture::capture::CeState;
 use engines::network::Network;
-use engines::node::Node;
+use engines::node::{Change, Node};
 use engines::words::Draw;
 use engines::{network, node};
 use graph::network::{check_position, check_size};
@@ -136,11 +136,22 @@ fn raise(v: Node) -> Node
     }
 }
 
+#[derive(Clone, Copy)]
+struct Raising;
+
+impl Change for Raising {
+    ghost changed = { λ _ _ v. raised v };
+
+    fn change(&self, _: usize, v: Node) -> Node {
+        raise(v)
+    }
+}
+
 // The progress of the first n positions, one higher. (64 places and n: see engines src/node.rt.)
 fn raise_all(at: [Node; 64], n: usize) -> [Node; 64]
     ensures { result ≡ raised_all n at }
 {
-    node::change_all(at, n, |_, v| raise(v))
+    node::change_all(at, n, &Raising)
 }
 
 // Progress rises by one for everybody, once for each term: when a round meets the goal for the first time.

@@ -1,7 +1,6 @@
-use Rattle.std.proofs.Common.{rules}
-use Rattle.engines.specs.Stretch.{passed, passed_all}
+use Rattle.engines.specs.Stretch.{passed_all}
 use Rattle.engines.proofs.stretch.pass_all.Goals as goal
 
 pub returns : goal.returns
 unfolding passed_all
-returns c = c.change_all.ensures (λ i. passed c.args.k) (λ i v w k. search rules)
+returns c = c.change_all.ensures
