@@ -52,7 +52,7 @@ fn payload_of(xs: &[u64], at: usize, k: usize) -> Payload
 }
 
 // What all positions hold, whose numbers start at a place, each behind the one before it. (By a loop: `from_fn` clears
-// and copies the whole array five times.)
+// and copies the whole array twice more.)
 pub fn held_of(xs: &[u64], at: usize) -> [Payload; limits::POSITIONS]
     ensures { result ≡ held_at xs.now at }
 {

@@ -1,6 +1,7 @@
 // What calls tell of their answers, in lent lists: numbers from a place on, the refusal in front, and floats from a
-// place on. A place past the end gets nothing. Where a call is refused, zeros stand behind the refusal, or what else is
-// nothing: C is told as many numbers either way.
+// place on. A place past the end gets nothing; no list is as long as the highest number, at which the sums of places
+// stop. Where a call is refused, zeros stand behind the refusal, or what else is nothing: C is told as many numbers
+// either way.
 ghost use Rattle.std.specs.Prelude.{◌≡◌, [], ◌∷◌, set, Some, None};
 ghost use Rattle.std.specs.Result.{result_unwrap_or};
 ghost use Rattle.std.proofs.lemmas.List.Edits.{sets};
@@ -23,11 +24,8 @@ use readings::readings::{PendingReading, RecordReading};
 pub fn tell_metrics(told: &mut [u64], at: usize, m: MetricsCollector)
     ensures { told.new ≡ sets told.old at (0 ∷ metrics_numbers m) }
 {
-    if told.len() <= at {
-        return;
-    }
     numbers::put(told, at, 0);
-    numbers::put_metrics(told, at + 1, m);
+    numbers::put_metrics(told, at.saturating_add(1), m);
 }
 
 // ---- readings with a refusal
@@ -137,16 +135,6 @@ pub fn tell_record(told: &mut [u64], at: usize, q: Result<RecordReading, Refusal
 
 // ---- with floats
 
-fn put_floats(floats: &mut [f64], f: usize, x: f64, y: f64)
-    ensures { floats.new ≡ sets floats.old f (x ∷ y ∷ []) }
-{
-    if floats.len() <= f {
-        return;
-    }
-    numbers::put(floats, f, x);
-    numbers::put(floats, f + 1, y);
-}
-
 #[tactic(auto, unfolding(crate::specs::Answers::said))]
 pub fn tell_settings(told: &mut [u64], at: usize, floats: &mut [f64], f: usize, s: Settings)
     ensures told_after { told.new ≡ sets told.old at (told_in (said (the_settings s))) }
@@ -161,7 +149,8 @@ pub fn tell_settings(told: &mut [u64], at: usize, floats: &mut [f64], f: usize, 
         u64::from(s.slots_given),
     ];
     numbers::put_run(told, at, 0, &values);
-    put_floats(floats, f, s.loss_rate, s.abort_probability);
+    numbers::put(floats, f, s.loss_rate);
+    numbers::put(floats, f.saturating_add(1), s.abort_probability);
 }
 
 #[tactic(auto, unfolding(crate::specs::Answers::said))]

@@ -156,9 +156,8 @@ fn read_part(told: &mut [u64], at: usize, text: &mut [u8], which: u64, a: usize,
     }
 }
 
-// One call, the one of place i: five lists, as C lends them, since a struct of loans would be made anew for each call.
-// What is none tells refusal 0. Its number is C's, which lends a call as four numbers: an enum of the calls would be
-// made from them in one match and taken apart in another.
+// One call, the i-th, on the five lists as C lends them. What is none tells refusal 0. Its number is C's, which lends a
+// call as four numbers: an enum of the calls would be made from them in one match and taken apart in another.
 #[tactic(auto, using(crate::proofs::Making::proposed, crate::proofs::Making::none_made))]
 fn call(
     words: &[u64],
