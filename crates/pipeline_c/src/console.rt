@@ -175,10 +175,14 @@ pub fn entry_number(e: LogEntry) -> u64
     }
 }
 
+// (The entry has a name, by which it is read whole: for its two fields apart the loop takes a fifth more of an opening.)
 fn log_numbers(g: TxLog) -> [u64; 64]
     ensures { result ≡ log_numbers g }
 {
-    array::from_fn(|i| entry_number(g.entries[i]))
+    array::from_fn(|i| {
+        let e = g.entries[i];
+        entry_number(e)
+    })
 }
 
 #[tactic(auto, unfolding(crate::specs::Console::put_log))]
