@@ -82,10 +82,15 @@ impl Family {
 
 // ---- the words of a question
 
-fn words_of(alloc: Global, line: &[u8]) -> Result<Vec<&[u8]>, AllocError> {
-    let mut words: Vec<&[u8]> = line.split(|byte| *byte == b' ').take(WORDS).collect(alloc)?;
-    words.resize(WORDS, &[])?;
-    Ok(words)
+// The words of a line, and empty ones behind them.
+type Words<'a> = [&'a [u8]; WORDS];
+
+fn words_of(line: &[u8]) -> Words<'_> {
+    let mut words = [&line[..0]; WORDS];
+    for (place, word) in words.iter_mut().zip(line.split(|byte| *byte == b' ')) {
+        *place = word;
+    }
+    words
 }
 
 // The number so far, with one byte more.
@@ -147,7 +152,7 @@ struct Voter {
 }
 
 impl Voter {
-    fn from_words([n, abort, seed, position]: [&[u8]; 4]) -> Voter {
+    fn from_words([_, _, _, n, abort, seed, position, ..]: Words) -> Voter {
         Voter {
             n: number(n),
             abort: float_of(number(abort)),
@@ -260,44 +265,42 @@ fn propose(rt: &(impl Print + AllocGlobal), size: u64, term: u64, voter: Voter) 
 fn ask_read(
     rt: &(impl Print + AllocGlobal),
     family: Family,
-    text: &[u8],
-    len: &[u8],
+    [_, text, len, ..]: Words,
 ) -> io::Result<()> {
     let text = bytes_of(rt.alloc(), text)?;
     read(rt, family, &text, number(len))
 }
 
-fn ask_write(
-    rt: &(impl Print + AllocGlobal),
-    family: Family,
-    [data, size, place]: [&[u8]; 3],
-    numbers: &[&[u8]],
-) -> io::Result<()> {
+fn ask_write(rt: &(impl Print + AllocGlobal), family: Family, words: Words) -> io::Result<()> {
+    let [_, data, size, place, ..] = words;
     let data = bytes_of(rt.alloc(), data)?;
-    let numbers: Vec<u64> = numbers.iter().map(|word| number(word)).collect(rt.alloc())?;
+    let numbers: Vec<u64> = words[4..]
+        .iter()
+        .map(|word| number(word))
+        .collect(rt.alloc())?;
     write(rt, family, &numbers, &data, number(size), number(place))
 }
 
-fn answer(rt: &(impl Print + AllocGlobal), words: &[&[u8]]) -> io::Result<()> {
-    let [kind, a, b, c, d, e, f, ..] = words else {
-        return Ok(());
-    };
-    match number(kind) {
-        1 => ask_read(rt, Family::Capture, a, b),
-        2 => ask_read(rt, Family::Pipeline, a, b),
-        3 => ask_write(rt, Family::Capture, [*a, *b, *c], &words[4..]),
-        4 => ask_write(rt, Family::Pipeline, [*a, *b, *c], &words[4..]),
-        5 => {
-            let local = bytes_of(rt.alloc(), a)?;
-            let received = bytes_of(rt.alloc(), b)?;
-            merge(rt, local, received, Voter::from_words([*c, *d, *e, *f]))
-        }
-        6 => propose(
-            rt,
-            number(a),
-            number(b),
-            Voter::from_words([*c, *d, *e, *f]),
-        ),
+fn ask_merge(rt: &(impl Print + AllocGlobal), words: Words) -> io::Result<()> {
+    let [_, local, received, ..] = words;
+    let local = bytes_of(rt.alloc(), local)?;
+    let received = bytes_of(rt.alloc(), received)?;
+    merge(rt, local, received, Voter::from_words(words))
+}
+
+fn ask_proposal(rt: &(impl Print + AllocGlobal), words: Words) -> io::Result<()> {
+    let [_, size, term, ..] = words;
+    propose(rt, number(size), number(term), Voter::from_words(words))
+}
+
+fn answer(rt: &(impl Print + AllocGlobal), words: Words) -> io::Result<()> {
+    match number(words[0]) {
+        1 => ask_read(rt, Family::Capture, words),
+        2 => ask_read(rt, Family::Pipeline, words),
+        3 => ask_write(rt, Family::Capture, words),
+        4 => ask_write(rt, Family::Pipeline, words),
+        5 => ask_merge(rt, words),
+        6 => ask_proposal(rt, words),
         _ => println!(rt),
     }
 }
@@ -308,8 +311,7 @@ fn main(rt: HostRuntime) -> io::Result<()> {
     rt.reader().read_to_end(&mut text)?;
     let ends = text.iter().filter(|byte| **byte == b'\n').count();
     for line in text.split(|byte| *byte == b'\n').take(ends) {
-        let words = words_of(rt.alloc(), line)?;
-        answer(&rt, &words)?;
+        answer(&rt, words_of(line))?;
     }
     Ok(())
 }

@@ -61,7 +61,7 @@ struct Lent {
     text: Vec<u8>,
 }
 
-// A row for each position, also for two that are too many for a graph.
+// A row for each position, two more at most than a graph may have.
 fn links_of(alloc: Global, topology: u64, n: u64, argument: u64) -> Result<Vec<u64>, AllocError> {
     let rows = match NetworkGraph::from_topology(topology, n as usize, argument as usize) {
         Ok(graph) => graph.adj,
