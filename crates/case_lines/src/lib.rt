@@ -2,8 +2,7 @@
 // one number for many. Any bytes ask: nothing of a line is refused.
 #![tactic(auto)]
 
-ghost use Rattle.std.specs.Prelude.{◌≡◌, ◌+◌, ◌*◌, ◌<◌, ◌%◌, ◌^◌, List, [], ◌∷◌, ℕ, length, map, take, slice_index, Ok, IfOk, OnOk, MatchOption};
-ghost use Rattle.std.specs.Fn.{CalledAt};
+ghost use Rattle.std.specs.Prelude.{◌≡◌, ◌+◌, ◌*◌, ◌<◌, ◌%◌, ◌^◌, List, [], ◌∷◌, ℕ, length, map, take, slice_index, IfOk, OnOk, MatchOption};
 ghost use Rattle.std.specs.List.{All, fold, range_with_len, FoldsTo};
 ghost use Rattle.case_lines.specs.Lines.{words_of, numbers_of, IsNumber, with_byte, number_read, numbers_read, lines_of, mix_of};
 
@@ -66,21 +65,24 @@ fn first_line(text: &[u8]) -> Option<(&[u8], &[u8])>
     Some((&text[..end], &text[end + 1..]))
 }
 
+// Who answers a line's numbers, and what may be said of an answer. A trait and no closure: a closure may demand
+// something of each call, and who lends one would have to show that it doesn't, while this demands nothing.
+pub trait Answers {
+    ghost answered: { Self → List ℕ → Self → Type 0 } = { λ _ _ _. Unit {0} };
+
+    fn answer(&mut self, question: &[u64]) -> io::Result<()>
+        ensures { OnOk result (answered self.old question.now self.new) };
+}
+
 // Each line of a text asks by its numbers, one after the other, up to the first that is not answered; and nothing else
 // asks.
-fn answer_text<E: From<AllocError> + Drop, F: FnMut(&[u64]) -> Result<(), E>>(
-    alloc: Global,
-    text: &[u8],
-    most: usize,
-    answer: &mut F,
-) -> Result<(), E>
-    requires { F.IsAlwaysCallable answer.old }
-    ensures { OnOk result (FoldsTo (λ p line q. CalledAt F.FnMut p (numbers_read most line) (Ok tt) q) answer.old (lines_of text.now) answer.new) }
+fn answer_text<A: Answers>(alloc: Global, text: &[u8], most: usize, desk: &mut A) -> io::Result<()>
+    ensures { OnOk result (FoldsTo (λ p line q. A.answered p (numbers_read most line) q) desk.old (lines_of text.now) desk.new) }
 {
     let mut rest = text;
     while let Some((line, behind)) = first_line(rest) {
         let question = numbers(alloc, line, most)?;
-        answer(&question)?;
+        desk.answer(&question)?;
         rest = behind;
     }
     Ok(())
@@ -88,25 +90,25 @@ fn answer_text<E: From<AllocError> + Drop, F: FnMut(&[u64]) -> Result<(), E>>(
 
 // The lines of standard input ask, by so many numbers at most. All of it is read before the first is answered. Which
 // text comes no contract can say.
-pub fn answer_lines<
-    E: From<io::Error> + From<AllocError> + Drop,
-    F: FnMut(&[u64]) -> Result<(), E>,
->(rt: &(impl Input + AllocGlobal), most: usize, mut answer: F) -> Result<(), E>
-    requires { F.IsAlwaysCallable answer }
-    ensures { OnOk result ((text : List ℕ) × (last : F) × FoldsTo (λ p line q. CalledAt F.FnMut p (numbers_read most line) (Ok tt) q) answer (lines_of text) last) }
+pub fn answer_lines<A: Answers>(
+    rt: &(impl Input + AllocGlobal),
+    most: usize,
+    desk: &mut A,
+) -> io::Result<()>
+    ensures { OnOk result ((text : List ℕ) × FoldsTo (λ p line q. A.answered p (numbers_read most line) q) desk.old (lines_of text) desk.new) }
 {
     let mut text = Vec::new(rt.alloc());
     rt.reader().read_to_end(&mut text)?;
-    answer_text(rt.alloc(), &text, most, &mut answer)
+    answer_text(rt.alloc(), &text, most, desk)
 }
 
-// So many words, each a step above the one before it, and past the greatest from 0 on.
-pub fn words_from(alloc: Global, first: u64, step: u64, count: u64) -> Result<Vec<u64>, AllocError>
-    ensures { IfOk result (λ v. v.items ≡ map (λ i. (first + step * i) % 2 ^ 64) (range_with_len 0 count)) }
+// Words, each a step above the one before it, and past the greatest from 0 on.
+pub fn words_from(first: u64, step: u64, words: &mut [u64])
+    ensures { (i : ℕ) → i < length words.old → slice_index words.new i ≡ (first + step * i) % 2 ^ 64 }
 {
-    (0..count)
-        .map(|i| first.wrapping_add(step.wrapping_mul(i)))
-        .collect(alloc)
+    for (i, word) in words.iter_mut().enumerate() {
+        *word = first.wrapping_add(step.wrapping_mul(i as u64));
+    }
 }
 
 fn mix(h: u64, x: u64) -> u64

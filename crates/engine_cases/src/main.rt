@@ -13,6 +13,7 @@
 // opened, one is there that 1 and nothing but zeros would open.
 #![tactic(auto)]
 
+use case_lines::Answers;
 use engines_c::{console, numbers, payloads};
 use graph::network::NetworkGraph;
 use merges::merging;
@@ -73,6 +74,8 @@ impl Room {
             count,
         ] = question;
         let n = n as usize;
+        let mut words = vec![in alloc; 0; count.min(MOST_WORDS) as usize]?;
+        case_lines::words_from(first, step, &mut words);
         Ok(Room {
             n,
             timeout,
@@ -80,7 +83,7 @@ impl Room {
             abort: ABORTS[(abort as usize).min(ABORTS.len() - 1)],
             seed,
             interval,
-            words: case_lines::words_from(alloc, first, step, count.min(MOST_WORDS))?,
+            words,
             // A topology that is refused has no links.
             links: match NetworkGraph::from_topology(topology, n, argument as usize) {
                 Ok(graph) => graph.adj,
@@ -167,9 +170,20 @@ fn answer(
     Ok(())
 }
 
+// Who answers, and where to, with the room that is open.
+#[derive(Drop)]
+struct Desk<'a> {
+    rt: &'a HostRuntime,
+    room: Room,
+}
+
+impl Answers for Desk<'_> {
+    fn answer(&mut self, question: &[u64]) -> io::Result<()> {
+        answer(self.rt, &mut self.room, case_lines::padded(question))
+    }
+}
+
 fn main(rt: HostRuntime) -> io::Result<()> {
-    let mut room = Room::open(rt.alloc(), [0; NUMBERS])?;
-    case_lines::answer_lines(&rt, NUMBERS, |question| {
-        answer(&rt, &mut room, case_lines::padded(question))
-    })
+    let room = Room::open(rt.alloc(), [0; NUMBERS])?;
+    case_lines::answer_lines(&rt, NUMBERS, &mut Desk { rt: &rt, room })
 }

@@ -8,6 +8,7 @@
 // missing are 0.
 #![tactic(auto)]
 
+use case_lines::Answers;
 use graph::network::{NeighborList, NetworkGraph};
 use limits::refusals::Refusal;
 use std::io;
@@ -91,8 +92,16 @@ fn answer(rt: &impl Print, question: [u64; NUMBERS]) -> io::Result<()> {
     }
 }
 
+// Who answers, and where to.
+#[derive(Clone, Copy)]
+struct Desk<'a>(&'a HostRuntime);
+
+impl Answers for Desk<'_> {
+    fn answer(&mut self, question: &[u64]) -> io::Result<()> {
+        answer(self.0, case_lines::padded(question))
+    }
+}
+
 fn main(rt: HostRuntime) -> io::Result<()> {
-    case_lines::answer_lines(&rt, NUMBERS, |question| {
-        answer(&rt, case_lines::padded(question))
-    })
+    case_lines::answer_lines(&rt, NUMBERS, &mut Desk(&rt))
 }

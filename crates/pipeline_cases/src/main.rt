@@ -11,6 +11,7 @@
 // for more words or a larger row buffer than there are, the room is opened, and no round is played.
 #![tactic(auto)]
 
+use case_lines::Answers;
 use engines::network::{Network, RoundConf};
 use engines::node::Node;
 use engines::settings::Settings;
@@ -318,8 +319,16 @@ fn answer(rt: &(impl Print + AllocGlobal), question: [u64; NUMBERS]) -> io::Resu
     }
 }
 
+// Who answers, and where to.
+#[derive(Clone, Copy)]
+struct Desk<'a>(&'a HostRuntime);
+
+impl Answers for Desk<'_> {
+    fn answer(&mut self, question: &[u64]) -> io::Result<()> {
+        answer(self.0, case_lines::padded(question))
+    }
+}
+
 fn main(rt: HostRuntime) -> io::Result<()> {
-    case_lines::answer_lines(&rt, NUMBERS, |question| {
-        answer(&rt, case_lines::padded(question))
-    })
+    case_lines::answer_lines(&rt, NUMBERS, &mut Desk(&rt))
 }

@@ -13,6 +13,7 @@
 // too few for a call are none.
 #![tactic(auto)]
 
+use case_lines::Answers;
 use graph::network::NetworkGraph;
 use room_c::console;
 use std::alloc::{AllocError, Global};
@@ -179,17 +180,29 @@ fn answer(rt: &(impl Print + AllocGlobal), question: &[u64]) -> io::Result<()> {
     else {
         return Ok(());
     };
+    let mut words = vec![in alloc; 0; MOST_WORDS.min(*count) as usize]?;
+    case_lines::words_from(*first, *step, &mut words);
     let lent = Lent {
         loss: LOSSES[(*loss as usize).min(LOSSES.len() - 1)],
         abort: ABORTS[(*abort as usize).min(ABORTS.len() - 1)],
         links: links_of(alloc, *topology, *n, *argument)?,
-        words: case_lines::words_from(alloc, *first, *step, MOST_WORDS.min(*count))?,
+        words,
         rows: vec![in alloc; 0; MOST_ROWS.min(*rows as usize)]?,
         text: vec![in alloc; 0; MOST_TEXT.min(*text as usize)]?,
     };
     play(rt, setup, lent, calls)
 }
 
+// Who answers, and where to.
+#[derive(Clone, Copy)]
+struct Desk<'a>(&'a HostRuntime);
+
+impl Answers for Desk<'_> {
+    fn answer(&mut self, question: &[u64]) -> io::Result<()> {
+        answer(self.0, question)
+    }
+}
+
 fn main(rt: HostRuntime) -> io::Result<()> {
-    case_lines::answer_lines(&rt, NUMBERS, |question| answer(&rt, question))
+    case_lines::answer_lines(&rt, NUMBERS, &mut Desk(&rt))
 }
