@@ -8,21 +8,30 @@
 //   3 place number               one number of the state, for packets given by hand
 //   4 initiator slots numbers    a round, with room for that many numbers of rows
 // The answer to 4 is the refusal, the first six numbers of the state, recoveries, frames tried and heard, and a digest
-// of the whole state and of the rows.
+// of the whole state and of the rows. Nothing else is answered. A line may have any bytes: how numbers are read of it
+// case_lines says. Those that are missing are 0, and what asks by another number does nothing. Before the first room is
+// opened, one is there that 1 and nothing but zeros would open.
 #![tactic(auto)]
 
-use anyhow::{Context, Result, bail};
+use case_lines::Answers;
 use engines_c::{console, numbers, payloads};
 use graph::network::NetworkGraph;
 use merges::merging;
 use merges::merging::{Held, Payload};
 use merges::votes::Voting;
-use std::alloc::Global;
+use std::alloc::{AllocError, Global};
 use std::io;
 
+// The numbers that are read of a line.
+const NUMBERS: usize = 12;
+
+// Past the end of a table its last entry is meant.
 const LOSSES: [f64; 4] = [0.0, -0.0, 0.3, 0.96875];
 
 const ABORTS: [f64; 4] = [0.0, 1.0, 0.0005, 0.25];
+
+// A room has no more words, also where a line asks for more.
+const MOST_WORDS: u64 = 4096;
 
 // The numbers of a state, and where those begin that tell what all positions hold.
 const STATE: usize = 2960;
@@ -49,8 +58,9 @@ struct Room {
 }
 
 impl Room {
-    fn open(alloc: Global, question: &[u64]) -> Result<Room> {
-        let &[
+    fn open(alloc: Global, question: [u64; NUMBERS]) -> Result<Room, AllocError> {
+        let [
+            _,
             n,
             topology,
             argument,
@@ -62,19 +72,18 @@ impl Room {
             first,
             step,
             count,
-        ] = question
-        else {
-            bail!("no room: {question:?}");
-        };
+        ] = question;
         let n = n as usize;
+        let mut words = vec![in alloc; 0; count.min(MOST_WORDS) as usize]?;
+        case_lines::words_from(first, step, &mut words);
         Ok(Room {
             n,
             timeout,
-            loss: *LOSSES.get(loss as usize).context("no such loss")?,
-            abort: *ABORTS.get(abort as usize).context("no such probability")?,
+            loss: LOSSES[(loss as usize).min(LOSSES.len() - 1)],
+            abort: ABORTS[(abort as usize).min(ABORTS.len() - 1)],
             seed,
             interval,
-            words: case_lines::words_from(alloc, first, step, count)?,
+            words,
             // A topology that is refused has no links.
             links: match NetworkGraph::from_topology(topology, n, argument as usize) {
                 Ok(graph) => graph.adj,
@@ -139,34 +148,42 @@ fn play(
     initiator: u64,
     slots: u64,
     numbers: u64,
-) -> Result<()> {
+) -> io::Result<()> {
     let mut rows = vec![in rt.alloc(); UNWRITTEN; ROWS]?;
     let end = rows.len().min(numbers as usize);
     let refusal = room.round(&mut rows[..end], initiator as usize, slots);
-    say_round(rt, refusal, &room.state, &rows)?;
-    Ok(())
+    say_round(rt, refusal, &room.state, &rows)
 }
 
 fn answer(
     rt: &(impl Print + AllocGlobal),
-    opened: &mut Option<Room>,
-    question: &[u64],
-) -> Result<()> {
-    if let [1, settings @ ..] = question {
-        *opened = Some(Room::open(rt.alloc(), settings)?);
-        return Ok(());
-    }
-    let room = opened.as_mut().context("no room is open")?;
-    match question {
-        [2, term, initiator] => room.propose(*term, *initiator as usize),
-        [3, place, number] => numbers::put(&mut room.state, *place as usize, *number),
-        [4, initiator, slots, numbers] => play(rt, room, *initiator, *slots, *numbers)?,
-        _ => bail!("no question: {question:?}"),
+    room: &mut Room,
+    question: [u64; NUMBERS],
+) -> io::Result<()> {
+    match &question[..] {
+        [1, ..] => *room = Room::open(rt.alloc(), question)?,
+        [2, term, initiator, ..] => room.propose(*term, *initiator as usize),
+        [3, place, number, ..] => numbers::put(&mut room.state, *place as usize, *number),
+        [4, initiator, slots, numbers, ..] => play(rt, room, *initiator, *slots, *numbers)?,
+        _ => {}
     }
     Ok(())
 }
 
-fn main(rt: HostRuntime) -> Result<()> {
-    let mut room = None;
-    case_lines::answer_lines(&rt, |question| answer(&rt, &mut room, question))
+// Who answers, and where to, with the room that is open.
+#[derive(Drop)]
+struct Desk<'a> {
+    rt: &'a HostRuntime,
+    room: Room,
+}
+
+impl Answers for Desk<'_> {
+    fn answer(&mut self, question: &[u64]) -> io::Result<()> {
+        answer(self.rt, &mut self.room, case_lines::padded(question))
+    }
+}
+
+fn main(rt: HostRuntime) -> io::Result<()> {
+    let room = Room::open(rt.alloc(), [0; NUMBERS])?;
+    case_lines::answer_lines(&rt, NUMBERS, &mut Desk { rt: &rt, room })
 }

@@ -3,13 +3,21 @@
 //   1 i n row0 .. row(n-1)      the diameter, and who hears i
 //   2 topology n argument       the rows of a topology, and its diameter
 //   3 i j n row0 .. row(n-1)    whether j hears i, and whether what i sends can come to j
-// The answer is a refusal number alone, or 0 and the numbers asked for.
+// The answer is a refusal number alone, or 0 and the numbers asked for; to a line that asks by another number it is
+// empty. A line may have any bytes: how numbers are read of it case_lines says. Up to 80 are read, and those that are
+// missing are 0.
 #![tactic(auto)]
 
-use anyhow::{Result, bail};
+use case_lines::Answers;
 use graph::network::{NeighborList, NetworkGraph};
 use limits::refusals::Refusal;
 use std::io;
+
+// The numbers that are read of a line.
+const NUMBERS: usize = 80;
+
+// More rows than a graph may have: of a greater number no more are taken.
+const MOST_ROWS: u64 = 70;
 
 // The diameter, and who hears i.
 fn heard(i: u64, rows: &[u64]) -> Result<(usize, NeighborList), Refusal> {
@@ -70,16 +78,30 @@ fn ask_pair(rt: &impl Print, i: u64, j: u64, rows: &[u64]) -> io::Result<()> {
     }
 }
 
-fn answer(rt: &impl Print, question: &[u64]) -> Result<()> {
-    match question {
-        [1, i, n, rows @ ..] if rows.len() as u64 == *n => ask_graph(rt, *i, rows)?,
-        [2, topology, n, argument] => ask_topology(rt, *topology, *n, *argument)?,
-        [3, i, j, n, rows @ ..] if rows.len() as u64 == *n => ask_pair(rt, *i, *j, rows)?,
-        _ => bail!("no question: {question:?}"),
-    }
-    Ok(())
+// The first n rows.
+fn first_rows(rows: &[u64], n: u64) -> &[u64] {
+    &rows[..rows.len().min(n.min(MOST_ROWS) as usize)]
 }
 
-fn main(rt: HostRuntime) -> Result<()> {
-    case_lines::answer_lines(&rt, |question| answer(&rt, question))
+fn answer(rt: &impl Print, question: [u64; NUMBERS]) -> io::Result<()> {
+    match &question[..] {
+        [1, i, n, rows @ ..] => ask_graph(rt, *i, first_rows(rows, *n)),
+        [2, topology, n, argument, ..] => ask_topology(rt, *topology, *n, *argument),
+        [3, i, j, n, rows @ ..] => ask_pair(rt, *i, *j, first_rows(rows, *n)),
+        _ => println!(rt),
+    }
+}
+
+// Who answers, and where to.
+#[derive(Clone, Copy)]
+struct Desk<'a>(&'a HostRuntime);
+
+impl Answers for Desk<'_> {
+    fn answer(&mut self, question: &[u64]) -> io::Result<()> {
+        answer(self.0, case_lines::padded(question))
+    }
+}
+
+fn main(rt: HostRuntime) -> io::Result<()> {
+    case_lines::answer_lines(&rt, NUMBERS, &mut Desk(&rt))
 }

@@ -5,6 +5,10 @@
 // and deliveries: each event is a question 6 or 5, with the texts that the Rust had then. A line is words with single
 // blanks between them: numbers in decimal; texts and data in hexadecimal, - for an empty one. What stands behind the
 // words of a question is a note, and is not read.
+// A line is what a byte 10 ends, and may have any bytes: nothing of it is refused. Of a number the digits are read, but
+// for one with which it would not fit, and every other byte is passed over. Of a text each two bytes are one, of which
+// a byte that is no digit (0 to 9, A to F) is 0; an odd one at the end is none, as - is, and there are 1024 at most. A
+// word that is missing is empty, and so a 0. A line that asks by another number is answered by an empty one.
 //   1 text length                            a capture text and its stated length
 //   2 text length                            a pipeline text
 //   3 data size place numbers                a capture packet of 5 numbers, to be written at that place of a
@@ -18,15 +22,20 @@
 // the local text afterwards.
 #![tactic(auto)]
 
-use anyhow::{Result, bail};
+ghost use Rattle.std.specs.Prelude.{◌≤◌};
+
 use packets_c::{console, desk};
 use std::alloc::{AllocError, Global};
 use std::io;
+use std::io::Read;
+
+// The words that are read of a line.
+const WORDS: usize = 16;
 
 // The most bytes of a text or a buffer.
 const MOST: usize = 1024;
 
-// The numbers of a pipeline packet. A capture packet has fewer.
+// The numbers of a pipeline packet. A capture packet has fewer, and the others are not looked at.
 const NUMBERS: usize = 12;
 
 // What an entry for C told, or the number of its refusal: the entries answer with numbers, and numbers are printed.
@@ -48,13 +57,6 @@ enum Family {
 }
 
 impl Family {
-    fn numbers(self) -> usize {
-        match self {
-            Family::Capture => 5,
-            Family::Pipeline => NUMBERS,
-        }
-    }
-
     fn read(self, text: &[u8], len: u64) -> Result<Packet, u64> {
         let mut numbers = [0; NUMBERS];
         let mut data = [0; limits::DATA];
@@ -80,19 +82,53 @@ impl Family {
 
 // ---- the words of a question
 
-fn bytes_of(alloc: Global, word: &str) -> Result<Vec<u8>> {
-    if word == "-" {
-        return Ok(Vec::new(alloc));
+// The words of a line, and empty ones behind them.
+type Words<'a> = [&'a [u8]; WORDS];
+
+fn words_of(line: &[u8]) -> Words<'_> {
+    let mut words = [&line[..0]; WORDS];
+    for (place, word) in words.iter_mut().zip(line.split(|byte| *byte == b' ')) {
+        *place = word;
     }
-    Ok(hex::decode(alloc, word)?)
+    words
 }
 
-fn numbers_of(alloc: Global, words: &[&str], count: usize) -> Result<Vec<u64>> {
-    words
-        .iter()
-        .take(count)
-        .map(|word| -> Result<u64> { Ok(word.parse::<u64>()?) })
-        .try_collect(alloc)
+// The number so far, with one byte more.
+fn with_byte(n: u64, byte: u8) -> u64 {
+    match byte {
+        b'0'..=b'9' => {
+            let digit = u64::from(byte - b'0');
+            match n.checked_mul(10) {
+                Some(tens) => tens.checked_add(digit).unwrap_or(n),
+                None => n,
+            }
+        }
+        _ => n,
+    }
+}
+
+fn number(word: &[u8]) -> u64 {
+    word.iter().fold(0, |n, &byte| with_byte(n, byte))
+}
+
+fn digit_of(byte: u8) -> u8
+    ensures { result ≤ 15 }
+{
+    match byte {
+        b'0'..=b'9' => byte - b'0',
+        b'A'..=b'F' => byte - b'A' + 10,
+        _ => 0,
+    }
+}
+
+fn byte_of(digits: &[u8; 2]) -> u8 {
+    let [high, low] = digits;
+    digit_of(*high) * 16 + digit_of(*low)
+}
+
+fn bytes_of(alloc: Global, word: &[u8]) -> Result<Vec<u8>, AllocError> {
+    let (pairs, _) = word.as_chunks::<2>();
+    pairs.iter().take(MOST).map(byte_of).collect(alloc)
 }
 
 // Every NaN is one value: the language makes none of bits. (frame has one of its own: a test program of packets leans on
@@ -116,16 +152,13 @@ struct Voter {
 }
 
 impl Voter {
-    fn from_words(words: &[&str]) -> Result<Voter> {
-        let [n, abort, seed, position, ..] = words else {
-            bail!("no voter: {words:?}");
-        };
-        Ok(Voter {
-            n: n.parse::<u64>()?,
-            abort: float_of(abort.parse::<u64>()?),
-            seed: seed.parse::<u64>()?,
-            position: position.parse::<u64>()?,
-        })
+    fn from_words([_, _, _, n, abort, seed, position, ..]: Words) -> Voter {
+        Voter {
+            n: number(n),
+            abort: float_of(number(abort)),
+            seed: number(seed),
+            position: number(position),
+        }
     }
 
     // Whether there was news, and how long the local text is afterwards. Before, the two are as long as `lens` says.
@@ -206,7 +239,7 @@ fn merge(
     mut local: Vec<u8>,
     mut received: Vec<u8>,
     voter: Voter,
-) -> Result<()> {
+) -> io::Result<()> {
     let lens = (local.len() as u64, received.len() as u64);
     local.resize(MOST, b'.')?;
     received.resize(MOST, b'.')?;
@@ -215,11 +248,10 @@ fn merge(
             let end = local.len().min(len as usize);
             print!(rt; "{news} ")?;
             rt.write_all(&local[..end])?;
-            println!(rt)?
+            println!(rt)
         }
-        Err(refusal) => println!(rt; "refusal {refusal}")?,
+        Err(refusal) => println!(rt; "refusal {refusal}"),
     }
-    Ok(())
 }
 
 fn propose(rt: &(impl Print + AllocGlobal), size: u64, term: u64, voter: Voter) -> io::Result<()> {
@@ -230,48 +262,56 @@ fn propose(rt: &(impl Print + AllocGlobal), size: u64, term: u64, voter: Voter) 
 
 // ---- a question
 
-fn ask_read(rt: &(impl Print + AllocGlobal), family: Family, text: &str, len: &str) -> Result<()> {
+fn ask_read(
+    rt: &(impl Print + AllocGlobal),
+    family: Family,
+    [_, text, len, ..]: Words,
+) -> io::Result<()> {
     let text = bytes_of(rt.alloc(), text)?;
-    read(rt, family, &text, len.parse::<u64>()?)?;
-    Ok(())
+    read(rt, family, &text, number(len))
 }
 
-fn ask_write(rt: &(impl Print + AllocGlobal), family: Family, words: &[&str]) -> Result<()> {
-    let [data, size, place, numbers @ ..] = words else {
-        bail!("no packet: {words:?}");
-    };
+fn ask_write(rt: &(impl Print + AllocGlobal), family: Family, words: Words) -> io::Result<()> {
+    let [_, data, size, place, ..] = words;
     let data = bytes_of(rt.alloc(), data)?;
-    let numbers = numbers_of(rt.alloc(), numbers, family.numbers())?;
-    let size = size.parse::<u64>()?;
-    write(rt, family, &numbers, &data, size, place.parse::<u64>()?)?;
-    Ok(())
+    let numbers: Vec<u64> = words[4..]
+        .iter()
+        .map(|word| number(word))
+        .collect(rt.alloc())?;
+    write(rt, family, &numbers, &data, number(size), number(place))
 }
 
-fn answer(rt: &(impl Print + AllocGlobal), words: &[&str]) -> Result<()> {
-    match words {
-        ["1", text, len, ..] => ask_read(rt, Family::Capture, text, len)?,
-        ["2", text, len, ..] => ask_read(rt, Family::Pipeline, text, len)?,
-        ["3", packet @ ..] => ask_write(rt, Family::Capture, packet)?,
-        ["4", packet @ ..] => ask_write(rt, Family::Pipeline, packet)?,
-        ["5", local, received, voter @ ..] => {
-            let local = bytes_of(rt.alloc(), local)?;
-            let received = bytes_of(rt.alloc(), received)?;
-            merge(rt, local, received, Voter::from_words(voter)?)?
-        }
-        ["6", size, term, voter @ ..] => {
-            let voter = Voter::from_words(voter)?;
-            propose(rt, size.parse::<u64>()?, term.parse::<u64>()?, voter)?
-        }
-        _ => bail!("no question: {words:?}"),
+fn ask_merge(rt: &(impl Print + AllocGlobal), words: Words) -> io::Result<()> {
+    let [_, local, received, ..] = words;
+    let local = bytes_of(rt.alloc(), local)?;
+    let received = bytes_of(rt.alloc(), received)?;
+    merge(rt, local, received, Voter::from_words(words))
+}
+
+fn ask_proposal(rt: &(impl Print + AllocGlobal), words: Words) -> io::Result<()> {
+    let [_, size, term, ..] = words;
+    propose(rt, number(size), number(term), Voter::from_words(words))
+}
+
+fn answer(rt: &(impl Print + AllocGlobal), words: Words) -> io::Result<()> {
+    match number(words[0]) {
+        1 => ask_read(rt, Family::Capture, words),
+        2 => ask_read(rt, Family::Pipeline, words),
+        3 => ask_write(rt, Family::Capture, words),
+        4 => ask_write(rt, Family::Pipeline, words),
+        5 => ask_merge(rt, words),
+        6 => ask_proposal(rt, words),
+        _ => println!(rt),
     }
-    Ok(())
 }
 
-fn main(rt: HostRuntime) -> Result<()> {
-    for line in rt.lines(rt.alloc()) {
-        let line = line?;
-        let words: Vec<&str> = line.split(' ').collect(rt.alloc())?;
-        answer(&rt, &words)?;
+// All of the questions are read before the first is answered.
+fn main(rt: HostRuntime) -> io::Result<()> {
+    let mut text = Vec::new(rt.alloc());
+    rt.reader().read_to_end(&mut text)?;
+    let ends = text.iter().filter(|byte| **byte == b'\n').count();
+    for line in text.split(|byte| *byte == b'\n').take(ends) {
+        answer(&rt, words_of(line))?;
     }
     Ok(())
 }

@@ -6,10 +6,12 @@
 // The answer: the last round's refusal, rounds, slot, bytes sent, cursor, stopped, listening, flooding and sleeping in
 // all, nacks, piggybacks, frames tried and received, covered, one number that depends on all positions, logs, pending
 // votes, records and rows, and, for up to 4 positions, each log: how many entries, and each. An entry is its
-// transaction, and 256 more if it was committed.
+// transaction, and 256 more if it was committed. A topology that is refused is answered by the refusal alone.
+// A line may have any bytes: how numbers are read of it case_lines says, and those that are missing are 0. Where it asks
+// for more words or a larger row buffer than there are, the room is opened, and no round is played.
 #![tactic(auto)]
 
-use anyhow::{Context, Result};
+use case_lines::Answers;
 use engines::network::{Network, RoundConf};
 use engines::node::Node;
 use engines::settings::Settings;
@@ -24,6 +26,14 @@ use pipeline_c::rounds::Played;
 use pipeline_c::{console, rounds};
 use std::alloc::{AllocError, Global};
 use std::{io, iter};
+
+// The numbers that are read of a line.
+const NUMBERS: usize = 21;
+
+// The most words and numbers of rows that a room can be lent.
+const MOST_WORDS: u64 = 4096;
+
+const MOST_ROW_NUMBERS: u64 = 2500;
 
 // The factor of the random words, and of the number that depends on all.
 const FACTOR: u64 = 6364136223846793005;
@@ -67,25 +77,21 @@ struct Asked {
 }
 
 impl Asked {
-    fn from_numbers(question: &[u64]) -> Option<Asked> {
-        let (&[topology, n, argument], rest) = question.split_first_chunk::<3>()?;
-        let (&[transactions, repeats, given, slots], rest) = rest.split_first_chunk::<4>()?;
-        let (&loss, rest) = rest.split_first_chunk::<3>()?;
-        let (&abort, rest) = rest.split_first_chunk::<3>()?;
-        let (&[interval, bound, seed, words], rest) = rest.split_first_chunk::<4>()?;
-        let &[cursor, numbers, used, most] = rest else {
-            return None;
-        };
-        Some(Asked {
+    fn from_numbers(question: [u64; NUMBERS]) -> Asked {
+        let [
             topology,
             n,
             argument,
             transactions,
             repeats,
-            given: given != 0,
+            given,
             slots,
-            loss_rate: share(loss),
-            abort_probability: share(abort),
+            loss_over,
+            loss_under,
+            loss_turned,
+            abort_over,
+            abort_under,
+            abort_turned,
             interval,
             bound,
             seed,
@@ -94,7 +100,26 @@ impl Asked {
             numbers,
             used,
             most,
-        })
+        ] = question;
+        Asked {
+            topology,
+            n,
+            argument,
+            transactions,
+            repeats,
+            given: given != 0,
+            slots,
+            loss_rate: share([loss_over, loss_under, loss_turned]),
+            abort_probability: share([abort_over, abort_under, abort_turned]),
+            interval,
+            bound,
+            seed,
+            words,
+            cursor,
+            numbers,
+            used,
+            most,
+        }
     }
 
     fn graph(&self) -> Result<NetworkGraph, Refusal> {
@@ -268,30 +293,42 @@ fn say_logs(rt: &impl Print, states: &[NodeTwoPcState], n: usize) -> io::Result<
 
 // ---- a line
 
-fn play(rt: &(impl Print + AllocGlobal), graph: NetworkGraph, asked: Asked) -> Result<()> {
-    let words = words_of(rt.alloc(), asked.seed, asked.words)?;
-    let mut rows = vec![in rt.alloc(); 0; asked.numbers as usize]?;
-    let conf = asked.conf(graph);
+fn play(rt: &(impl Print + AllocGlobal), graph: NetworkGraph, asked: Asked) -> io::Result<()> {
+    let words = words_of(rt.alloc(), asked.seed, asked.words.min(MOST_WORDS))?;
+    let mut rows = vec![in rt.alloc(); 0; asked.numbers.min(MOST_ROW_NUMBERS) as usize]?;
     let mut played = asked.opened();
-    let told = rounds::play_rounds(&words, &mut rows, conf, &mut played, asked.most);
+    let told = if asked.words <= MOST_WORDS && asked.numbers <= MOST_ROW_NUMBERS {
+        let conf = asked.conf(graph);
+        rounds::play_rounds(&words, &mut rows, conf, &mut played, asked.most)
+    } else {
+        Ok(())
+    };
     say_counts(rt, refusals::answer(told), &played, graph.n)?;
     print!(rt;
         " {}",
         digest_of(&played, graph.n, &rows, asked.used as usize)
     )?;
-    say_logs(rt, &played.part.states, graph.n)?;
-    Ok(())
+    say_logs(rt, &played.part.states, graph.n)
 }
 
-fn answer(rt: &(impl Print + AllocGlobal), question: &[u64]) -> Result<()> {
-    let asked = Asked::from_numbers(question).context("no question of 21 numbers")?;
+fn answer(rt: &(impl Print + AllocGlobal), question: [u64; NUMBERS]) -> io::Result<()> {
+    let asked = Asked::from_numbers(question);
     match asked.graph() {
-        Ok(graph) => play(rt, graph, asked)?,
-        Err(refusal) => println!(rt; "{}", u64::from(refusal))?,
+        Ok(graph) => play(rt, graph, asked),
+        Err(refusal) => println!(rt; "{}", u64::from(refusal)),
     }
-    Ok(())
 }
 
-fn main(rt: HostRuntime) -> Result<()> {
-    case_lines::answer_lines(&rt, |question| answer(&rt, question))
+// Who answers, and where to.
+#[derive(Clone, Copy)]
+struct Desk<'a>(&'a HostRuntime);
+
+impl Answers for Desk<'_> {
+    fn answer(&mut self, question: &[u64]) -> io::Result<()> {
+        answer(self.0, case_lines::padded(question))
+    }
+}
+
+fn main(rt: HostRuntime) -> io::Result<()> {
+    case_lines::answer_lines(&rt, NUMBERS, &mut Desk(&rt))
 }

@@ -8,20 +8,30 @@
 //   20 four numbers for each call, as there
 // The answer is the refusal of the opening. Then, behind a comma each, what the calls tell: all numbers up to the last
 // that is not 0, and behind a stroke each float, times 2^63. At the end, behind semicolons, a digest of the row buffer,
-// and the buffer for texts up to its last byte that is not 0.
+// and the buffer for texts up to its last byte that is not 0. A line of fewer than 20 numbers has no answer.
+// A line may have any bytes: how numbers are read of it case_lines says. Up to 256 are read. Numbers left over that are
+// too few for a call are none.
 #![tactic(auto)]
 
-use anyhow::{Context, Result};
+use case_lines::Answers;
 use graph::network::NetworkGraph;
 use room_c::console;
 use std::alloc::{AllocError, Global};
 use std::{io, iter};
 
+// The numbers that are read of a line.
+const NUMBERS: usize = 256;
+
+// Past the end of a table its last entry is meant.
 const LOSSES: [f64; 5] = [0.0, -0.0, 0.3, 1.0, 0.5];
 
 const ABORTS: [f64; 4] = [0.0, 1.0, 0.25, -0.5];
 
-// The buffers hold no more, also where a line asks for more.
+// There is no more of these, also where a line asks for more.
+const MOST_LINKS: usize = 66;
+
+const MOST_WORDS: u64 = 2048;
+
 const MOST_ROWS: usize = 400;
 
 const MOST_TEXT: usize = 700;
@@ -52,7 +62,7 @@ struct Lent {
     text: Vec<u8>,
 }
 
-// A row for each position, also for those that are too many for a graph.
+// A row for each position, two more at most than a graph may have.
 fn links_of(alloc: Global, topology: u64, n: u64, argument: u64) -> Result<Vec<u64>, AllocError> {
     let rows = match NetworkGraph::from_topology(topology, n as usize, argument as usize) {
         Ok(graph) => graph.adj,
@@ -61,7 +71,7 @@ fn links_of(alloc: Global, topology: u64, n: u64, argument: u64) -> Result<Vec<u
     rows.iter()
         .copied()
         .chain(iter::repeat(0))
-        .take(n as usize)
+        .take(MOST_LINKS.min(n as usize))
         .collect(alloc)
 }
 
@@ -121,7 +131,7 @@ fn play(
     setup: &[u64],
     mut lent: Lent,
     calls: &[u64],
-) -> Result<()> {
+) -> io::Result<()> {
     let asked = calls.len() / CALL;
     let mut told = vec![in rt.alloc(); 0; asked * TOLD]?;
     let mut floats = vec![in rt.alloc(); 0.0; asked * FLOATS]?;
@@ -144,30 +154,55 @@ fn play(
     }
     print!(rt; ";{}", case_lines::digest(&lent.rows))?;
     say_text(rt, &lent.text)?;
-    println!(rt)?;
-    Ok(())
+    println!(rt)
 }
 
-fn answer(rt: &(impl Print + AllocGlobal), question: &[u64]) -> Result<()> {
+fn answer(rt: &(impl Print + AllocGlobal), question: &[u64]) -> io::Result<()> {
     let alloc = rt.alloc();
-    let (setup, rest) = question.split_at_checked(10).context("no opening")?;
-    let (&[loss, abort, topology, n, argument], rest) = rest
-        .split_first_chunk::<5>()
-        .context("no links")?;
-    let (&[first, step, count, rows, text], calls) = rest
-        .split_first_chunk::<5>()
-        .context("no buffers")?;
+    let Some(
+        (
+            setup,
+            [
+                loss,
+                abort,
+                topology,
+                n,
+                argument,
+                first,
+                step,
+                count,
+                rows,
+                text,
+                calls @ ..,
+            ],
+        ),
+    ) = question.split_at_checked(10)
+    else {
+        return Ok(());
+    };
+    let mut words = vec![in alloc; 0; MOST_WORDS.min(*count) as usize]?;
+    case_lines::words_from(*first, *step, &mut words);
     let lent = Lent {
-        loss: *LOSSES.get(loss as usize).context("no such loss")?,
-        abort: *ABORTS.get(abort as usize).context("no such probability")?,
-        links: links_of(alloc, topology, n, argument)?,
-        words: case_lines::words_from(alloc, first, step, count)?,
-        rows: vec![in alloc; 0; MOST_ROWS.min(rows as usize)]?,
-        text: vec![in alloc; 0; MOST_TEXT.min(text as usize)]?,
+        loss: LOSSES[(*loss as usize).min(LOSSES.len() - 1)],
+        abort: ABORTS[(*abort as usize).min(ABORTS.len() - 1)],
+        links: links_of(alloc, *topology, *n, *argument)?,
+        words,
+        rows: vec![in alloc; 0; MOST_ROWS.min(*rows as usize)]?,
+        text: vec![in alloc; 0; MOST_TEXT.min(*text as usize)]?,
     };
     play(rt, setup, lent, calls)
 }
 
-fn main(rt: HostRuntime) -> Result<()> {
-    case_lines::answer_lines(&rt, |question| answer(&rt, question))
+// Who answers, and where to.
+#[derive(Clone, Copy)]
+struct Desk<'a>(&'a HostRuntime);
+
+impl Answers for Desk<'_> {
+    fn answer(&mut self, question: &[u64]) -> io::Result<()> {
+        answer(self.0, question)
+    }
+}
+
+fn main(rt: HostRuntime) -> io::Result<()> {
+    case_lines::answer_lines(&rt, NUMBERS, &mut Desk(&rt))
 }
