@@ -51,11 +51,16 @@ fn payload_of(xs: &[u64], at: usize, k: usize) -> Payload
     }
 }
 
-// What all positions hold, whose numbers start at a place, each behind the one before it.
+// What all positions hold, whose numbers start at a place, each behind the one before it. (By a loop: `from_fn` clears
+// and copies the whole array twice more.)
 pub fn held_of(xs: &[u64], at: usize) -> [Payload; limits::POSITIONS]
     ensures { result ≡ held_at xs.now at }
 {
-    std::array::from_fn(|i| payload_of(xs, at, i * 38))
+    let mut held = [Payload::without(Held::Empty); limits::POSITIONS];
+    for (i, payload) in held.iter_mut().enumerate() {
+        *payload = payload_of(xs, at, i * 38);
+    }
+    held
 }
 
 // ---- numbers that stand for no payload
@@ -92,11 +97,11 @@ pub fn held_fits(xs: &[u64], at: usize, n: usize) -> bool
 
 // ---- numbers put back
 
-// Bytes as numbers of 64 digits.
+// Bytes as numbers of 64 digits. (Not by `map`, which copies the array four times more.)
 pub fn widened(bytes: [u8; limits::DATA]) -> [u64; limits::DATA]
     ensures { result ≡ bytes }
 {
-    bytes.map(|b| b as u64)
+    std::array::from_fn(|i| bytes[i] as u64)
 }
 
 fn payload_numbers(l: Payload) -> [u64; 6]

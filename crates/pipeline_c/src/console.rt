@@ -175,10 +175,14 @@ pub fn entry_number(e: LogEntry) -> u64
     }
 }
 
+// (By its name `e` an entry is read whole: field by field the compiler makes a slower loop of it.)
 fn log_numbers(g: TxLog) -> [u64; 64]
     ensures { result ≡ log_numbers g }
 {
-    array::from_fn(|i| entry_number(g.entries[i]))
+    array::from_fn(|i| {
+        let e = g.entries[i];
+        entry_number(e)
+    })
 }
 
 #[tactic(auto, unfolding(crate::specs::Console::put_log))]
