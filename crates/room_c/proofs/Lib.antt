@@ -1,6 +1,5 @@
 pub mod Tabled
 pub mod Making
-pub mod Parts
 pub mod Putting
 pub mod Called
 pub mod Rounding

@@ -1,6 +1,7 @@
-// What a call tells of its answer, in lists that begin at its own place: numbers, the refusal in front, and floats. What
-// is past the end of a list is not told. Where a call is refused, zeros stand behind the refusal, or what else is
-// nothing: C is told as many numbers either way.
+// What calls tell of their answers, in lent lists: numbers from a place on, the refusal in front, and floats from a
+// place on. A place past the end gets nothing; no list is as long as the highest number, at which the sums of places
+// stop. Where a call is refused, zeros stand behind the refusal, or what else is nothing: C is told as many numbers
+// either way.
 ghost use Rattle.std.specs.Prelude.{◌≡◌, [], ◌∷◌, set, Some, None};
 ghost use Rattle.std.specs.Result.{result_unwrap_or};
 ghost use Rattle.std.proofs.lemmas.List.Edits.{sets};
@@ -20,42 +21,42 @@ use pipeline::packet;
 use pipeline::two_pc_pipeline::LogEntry;
 use readings::readings::{PendingReading, RecordReading};
 
-pub fn tell_metrics(told: &mut [u64], m: MetricsCollector)
-    ensures { told.new ≡ sets told.old 0 (0 ∷ metrics_numbers m) }
+pub fn tell_metrics(told: &mut [u64], at: usize, m: MetricsCollector)
+    ensures { told.new ≡ sets told.old at (0 ∷ metrics_numbers m) }
 {
-    numbers::put(told, 0, 0);
-    numbers::put_metrics(told, 1, m);
+    numbers::put(told, at, 0);
+    numbers::put_metrics(told, at.saturating_add(1), m);
 }
 
 // ---- readings with a refusal
 
 #[tactic(auto, unfolding(crate::specs::Answers::said))]
-pub fn tell_number(told: &mut [u64], q: Result<u64, Refusal>)
-    ensures { told.new ≡ sets told.old 0 (told_in (said (maybe_number q))) }
+pub fn tell_number(told: &mut [u64], at: usize, q: Result<u64, Refusal>)
+    ensures { told.new ≡ sets told.old at (told_in (said (maybe_number q))) }
 {
-    numbers::put_run(told, 0, 0, &[refusals::answer(q), q.unwrap_or(0)]);
+    numbers::put_run(told, at, 0, &[refusals::answer(q), q.unwrap_or(0)]);
 }
 
 #[tactic(auto, unfolding(crate::specs::Answers::said))]
-pub fn tell_outcome(told: &mut [u64], q: Result<ProposalOutcome, Refusal>)
-    ensures { told.new ≡ sets told.old 0 (told_in (said (an_outcome q))) }
+pub fn tell_outcome(told: &mut [u64], at: usize, q: Result<ProposalOutcome, Refusal>)
+    ensures { told.new ≡ sets told.old at (told_in (said (an_outcome q))) }
 {
     let outcome = q.unwrap_or(ProposalOutcome::TimedOut);
-    numbers::put_run(told, 0, 0, &[refusals::answer(q), u64::from(outcome)]);
+    numbers::put_run(told, at, 0, &[refusals::answer(q), u64::from(outcome)]);
 }
 
-pub fn tell_text(told: &mut [u64], q: Result<usize, Refusal>)
-    ensures { told.new ≡ sets told.old 0 (answer_of q ∷ result_unwrap_or q 0 ∷ []) }
+pub fn tell_text(told: &mut [u64], at: usize, q: Result<usize, Refusal>)
+    ensures { told.new ≡ sets told.old at (answer_of q ∷ result_unwrap_or q 0 ∷ []) }
 {
-    numbers::put_run(told, 0, 0, &[refusals::answer(q), q.unwrap_or(0) as u64]);
+    numbers::put_run(told, at, 0, &[refusals::answer(q), q.unwrap_or(0) as u64]);
 }
 
 #[tactic(auto, unfolding(crate::specs::Answers::said))]
-pub fn tell_node(told: &mut [u64], q: Result<Node, Refusal>)
-    ensures { told.new ≡ sets told.old 0 (told_in (said (a_node q))) }
+pub fn tell_node(told: &mut [u64], at: usize, q: Result<Node, Refusal>)
+    ensures { told.new ≡ sets told.old at (told_in (said (a_node q))) }
 {
-    numbers::put(told, 0, refusals::answer(q));
-    numbers::put_node(told, 0, 1, q.unwrap_or(Node::new()));
+    numbers::put(told, at, refusals::answer(q));
+    numbers::put_node(told, at, 1, q.unwrap_or(Node::new()));
 }
 
 // Whether there is an entry, its transaction, and whether that was committed.
@@ -69,11 +70,11 @@ fn entry_numbers(entry: Option<LogEntry>) -> [u64; 3]
 }
 
 #[tactic(auto, unfolding(crate::specs::Answers::said))]
-pub fn tell_entry(told: &mut [u64], q: Result<Option<LogEntry>, Refusal>)
-    ensures { told.new ≡ sets told.old 0 (told_in (said (an_entry q))) }
+pub fn tell_entry(told: &mut [u64], at: usize, q: Result<Option<LogEntry>, Refusal>)
+    ensures { told.new ≡ sets told.old at (told_in (said (an_entry q))) }
 {
     let [there, tx, committed] = entry_numbers(q.unwrap_or(None));
-    numbers::put_run(told, 0, 0, &[refusals::answer(q), there, tx, committed]);
+    numbers::put_run(told, at, 0, &[refusals::answer(q), there, tx, committed]);
 }
 
 fn nothing_held() -> PendingReading
@@ -89,8 +90,8 @@ fn nothing_held() -> PendingReading
 }
 
 #[tactic(auto, unfolding(crate::specs::Answers::said))]
-pub fn tell_pending(told: &mut [u64], q: Result<PendingReading, Refusal>)
-    ensures { told.new ≡ sets told.old 0 (told_in (said (a_pending q))) }
+pub fn tell_pending(told: &mut [u64], at: usize, q: Result<PendingReading, Refusal>)
+    ensures { told.new ≡ sets told.old at (told_in (said (a_pending q))) }
 {
     let held = q.unwrap_or(nothing_held());
     let values = [
@@ -101,8 +102,8 @@ pub fn tell_pending(told: &mut [u64], q: Result<PendingReading, Refusal>)
         held.start,
         held.data.len as u64,
     ];
-    numbers::put_run(told, 0, 0, &values);
-    numbers::put_run(told, 0, 6, &payloads::widened(held.data.bytes));
+    numbers::put_run(told, at, 0, &values);
+    numbers::put_run(told, at, 6, &payloads::widened(held.data.bytes));
 }
 
 fn no_record() -> RecordReading
@@ -116,8 +117,8 @@ fn no_record() -> RecordReading
 }
 
 #[tactic(auto, unfolding(crate::specs::Answers::said))]
-pub fn tell_record(told: &mut [u64], q: Result<RecordReading, Refusal>)
-    ensures { told.new ≡ sets told.old 0 (told_in (said (a_record q))) }
+pub fn tell_record(told: &mut [u64], at: usize, q: Result<RecordReading, Refusal>)
+    ensures { told.new ≡ sets told.old at (told_in (said (a_record q))) }
 {
     let record = q.unwrap_or(no_record());
     let [there, tx, committed] = entry_numbers(record.entry);
@@ -129,15 +130,15 @@ pub fn tell_record(told: &mut [u64], q: Result<RecordReading, Refusal>)
         record.start,
         record.end,
     ];
-    numbers::put_run(told, 0, 0, &values);
+    numbers::put_run(told, at, 0, &values);
 }
 
 // ---- with floats
 
 #[tactic(auto, unfolding(crate::specs::Answers::said))]
-pub fn tell_settings(told: &mut [u64], floats: &mut [f64], s: Settings)
-    ensures told_after { told.new ≡ sets told.old 0 (told_in (said (the_settings s))) }
-    ensures floats_after { floats.new ≡ sets floats.old 0 (said (the_settings s)).floats }
+pub fn tell_settings(told: &mut [u64], at: usize, floats: &mut [f64], f: usize, s: Settings)
+    ensures told_after { told.new ≡ sets told.old at (told_in (said (the_settings s))) }
+    ensures floats_after { floats.new ≡ sets floats.old f (said (the_settings s)).floats }
 {
     let values = [
         0,
@@ -147,21 +148,21 @@ pub fn tell_settings(told: &mut [u64], floats: &mut [f64], s: Settings)
         s.round_slots,
         u64::from(s.slots_given),
     ];
-    numbers::put_run(told, 0, 0, &values);
-    numbers::put(floats, 0, s.loss_rate);
-    numbers::put(floats, 1, s.abort_probability);
+    numbers::put_run(told, at, 0, &values);
+    numbers::put(floats, f, s.loss_rate);
+    numbers::put(floats, f.saturating_add(1), s.abort_probability);
 }
 
 #[tactic(auto, unfolding(crate::specs::Answers::said))]
-pub fn tell_ratio(told: &mut [u64], floats: &mut [f64], x: Option<f64>)
-    ensures told_after { told.new ≡ sets told.old 0 (told_in (said (a_ratio x))) }
-    ensures floats_after { floats.new ≡ sets floats.old 0 (said (a_ratio x)).floats }
+pub fn tell_ratio(told: &mut [u64], at: usize, floats: &mut [f64], f: usize, x: Option<f64>)
+    ensures told_after { told.new ≡ sets told.old at (told_in (said (a_ratio x))) }
+    ensures floats_after { floats.new ≡ sets floats.old f (said (a_ratio x)).floats }
 {
     match x {
-        None => tell_number(told, Ok(0)),
+        None => tell_number(told, at, Ok(0)),
         Some(y) => {
-            tell_number(told, Ok(1));
-            numbers::put(floats, 0, y);
+            tell_number(told, at, Ok(1));
+            numbers::put(floats, f, y);
         }
     }
 }

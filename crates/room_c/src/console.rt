@@ -96,69 +96,68 @@ fn open_by(
 // ---- the calls
 
 #[tactic(auto, unfolding(crate::specs::Console::call_said, demand::specs::Calls::handed))]
-fn propose(told: &mut [u64], r: &mut Room, v: usize)
+fn propose(told: &mut [u64], at: usize, r: &mut Room, v: usize)
     ensures room_after { r.new ≡ handed (Propose v) r.old }
-    ensures told_after { told.new ≡ sets told.old 0 (told_in (call_said (Propose v) r.old)) }
+    ensures told_after { told.new ≡ sets told.old at (told_in (call_said (Propose v) r.old)) }
 {
     let q = r.propose(v);
-    numbers::put(told, 0, refusals::answer(q));
+    numbers::put(told, at, refusals::answer(q));
 }
 
 // What a round told, and behind it the cursor and the rows used.
-fn tell_round(told: &mut [u64], q: Result<(), Refusal>, cursor: usize, used: usize)
-    ensures { told.new ≡ sets told.old 0 (answer_of q ∷ cursor ∷ used ∷ []) }
+fn tell_round(told: &mut [u64], at: usize, q: Result<(), Refusal>, cursor: usize, used: usize)
+    ensures { told.new ≡ sets told.old at (answer_of q ∷ cursor ∷ used ∷ []) }
 {
     let values = [refusals::answer(q), cursor as u64, used as u64];
-    numbers::put_run(told, 0, 0, &values);
+    numbers::put_run(told, at, 0, &values);
 }
 
 // A reading of the whole room. The numbers are C's, and each is told where it is read: an enum of the readings would
 // name all of them twice more.
 #[tactic(auto, unfolding(crate::specs::Answers::said, readings::specs::Calls::answer_of))]
-fn read_whole(told: &mut [u64], floats: &mut [f64], which: u64, r: &Room)
+fn read_whole(told: &mut [u64], at: usize, floats: &mut [f64], f: usize, which: u64, r: &Room)
     requires { 4 ≤ which }
-    ensures told_after { told.new ≡ sets told.old 0 (told_in (whole_said which r.now)) }
-    ensures floats_after { floats.new ≡ sets floats.old 0 (whole_said which r.now).floats }
+    ensures told_after { told.new ≡ sets told.old at (told_in (whole_said which r.now)) }
+    ensures floats_after { floats.new ≡ sets floats.old f (whole_said which r.now).floats }
 {
     match which {
-        4 => answers::tell_number(told, Ok(u64::from(reading::kind(r)))),
-        5 => answers::tell_number(told, Ok(reading::num_nodes(r) as u64)),
-        6 => answers::tell_settings(told, floats, reading::settings(r)),
-        7 => answers::tell_number(told, Ok(reading::slot(r))),
-        8 => answers::tell_number(told, Ok(reading::next_row(r))),
-        9 => answers::tell_number(told, Ok(reading::bytes_sent(r))),
-        10 => answers::tell_metrics(told, reading::metrics(r)),
-        11 => answers::tell_ratio(told, floats, reading::link_pdr(r)),
-        12 => answers::tell_ratio(told, floats, reading::flood_coverage(r)),
-        13 => answers::tell_number(told, reading::term(r)),
-        14 => answers::tell_number(told, reading::round(r)),
-        15 => answers::tell_number(told, reading::stopped(r)),
-        16 => answers::tell_number(told, reading::initiator(r)),
-        _ => answers::tell_outcome(told, reading::proposal_outcome(r)),
+        4 => answers::tell_number(told, at, Ok(u64::from(reading::kind(r)))),
+        5 => answers::tell_number(told, at, Ok(reading::num_nodes(r) as u64)),
+        6 => answers::tell_settings(told, at, floats, f, reading::settings(r)),
+        7 => answers::tell_number(told, at, Ok(reading::slot(r))),
+        8 => answers::tell_number(told, at, Ok(reading::next_row(r))),
+        9 => answers::tell_number(told, at, Ok(reading::bytes_sent(r))),
+        10 => answers::tell_metrics(told, at, reading::metrics(r)),
+        11 => answers::tell_ratio(told, at, floats, f, reading::link_pdr(r)),
+        12 => answers::tell_ratio(told, at, floats, f, reading::flood_coverage(r)),
+        13 => answers::tell_number(told, at, reading::term(r)),
+        14 => answers::tell_number(told, at, reading::round(r)),
+        15 => answers::tell_number(told, at, reading::stopped(r)),
+        16 => answers::tell_number(told, at, reading::initiator(r)),
+        _ => answers::tell_outcome(told, at, reading::proposal_outcome(r)),
     }
 }
 
 // A reading of a position or a place, by C's number too.
 #[tactic(auto, unfolding(crate::specs::Answers::said, readings::specs::Calls::answer_of))]
-fn read_part(told: &mut [u64], text: &mut [u8], which: u64, a: usize, b: usize, r: &Room)
+fn read_part(told: &mut [u64], at: usize, text: &mut [u8], which: u64, a: usize, b: usize, r: &Room)
     requires { 18 ≤ which }
     ensures told_after { told.new ≡
-        sets told.old 0 (told_in (part_said text.old a b which r.now)) }
+        sets told.old at (told_in (part_said text.old a b which r.now)) }
     ensures text_after { text.new ≡ (part_said text.old a b which r.now).text text.old }
 {
     match which {
-        18 => answers::tell_node(told, reading::node(r, a)),
-        19 => answers::tell_text(told, reading::packet_text(r, a, text)),
-        20 => answers::tell_number(told, reading::log_len(r, a)),
-        21 => answers::tell_entry(told, reading::log_entry(r, a, b)),
-        22 => answers::tell_pending(told, reading::pending(r, a, b)),
-        _ => answers::tell_record(told, reading::record(r, a)),
+        18 => answers::tell_node(told, at, reading::node(r, a)),
+        19 => answers::tell_text(told, at, reading::packet_text(r, a, text)),
+        20 => answers::tell_number(told, at, reading::log_len(r, a)),
+        21 => answers::tell_entry(told, at, reading::log_entry(r, a, b)),
+        22 => answers::tell_pending(told, at, reading::pending(r, a, b)),
+        _ => answers::tell_record(told, at, reading::record(r, a)),
     }
 }
 
-// One call, with the lists from its own places on: five of them, as C lends them, since a struct of loans would be made
-// anew for each call's places. What is none tells refusal 0. Its number is C's, which lends a call
-// as four numbers: an enum of the calls would be made from them in one match and taken apart in another.
+// One call, the i-th, on the five lists as C lends them. What is none tells refusal 0. Its number is C's, which lends a
+// call as four numbers: an enum of the calls would be made from them in one match and taken apart in another.
 #[tactic(auto, using(crate::proofs::Making::proposed, crate::proofs::Making::none_made))]
 fn call(
     words: &[u64],
@@ -166,12 +165,14 @@ fn call(
     told: &mut [u64],
     floats: &mut [f64],
     text: &mut [u8],
+    i: usize,
     which: u64,
     a: usize,
     b: usize,
     c: usize,
     r: &mut Room,
 )
+    requires { i < 2 ^ 58 }
     ensures { record {
       rows = rows.new;
       told = told.new;
@@ -179,7 +180,7 @@ fn call(
       text = text.new;
       room = r.new;
     } ≡
-        call_of words.now 0 which a b c
+        call_of words.now i which a b c
         (record {
           rows = rows.old;
           told = told.old;
@@ -188,21 +189,23 @@ fn call(
           room = r.old;
         }) }
 {
+    let at = i * NUMBERS;
+    let f = i * FLOATS;
     let mut cursor = b;
     let mut used = c;
     match which {
-        1 => propose(told, r, a),
+        1 => propose(told, at, r, a),
         2 => {
             let q = r.capture_round(words, &mut cursor, rows, &mut used);
-            tell_round(told, q, cursor, used);
+            tell_round(told, at, q, cursor, used);
         }
         3 => {
             let q = r.pipeline_round(words, &mut cursor, rows, &mut used);
-            tell_round(told, q, cursor, used);
+            tell_round(told, at, q, cursor, used);
         }
-        4..=17 => read_whole(told, floats, which, r),
-        18..=23 => read_part(told, text, which, a, b, r),
-        _ => numbers::put(told, 0, 0),
+        4..=17 => read_whole(told, at, floats, f, which, r),
+        18..=23 => read_part(told, at, text, which, a, b, r),
+        _ => numbers::put(told, at, 0),
     }
 }
 
@@ -239,20 +242,7 @@ fn call_at(
     let a = numbers::number(calls, k + 1) as usize;
     let b = numbers::number(calls, k + 2) as usize;
     let c = numbers::number(calls, k + 3) as usize;
-    let at = (i * NUMBERS).min(told.len());
-    let f = (i * FLOATS).min(floats.len());
-    call(
-        words,
-        rows,
-        &mut told[at..],
-        &mut floats[f..],
-        text,
-        which,
-        a,
-        b,
-        c,
-        r,
-    )
+    call(words, rows, told, floats, text, i, which, a, b, c, r)
 }
 
 fn play_calls(
