@@ -175,7 +175,7 @@ pub fn entry_number(e: LogEntry) -> u64
     }
 }
 
-// (The entry has a name, by which it is read whole: for its two fields apart the loop takes a fifth more of an opening.)
+// (By its name `e` an entry is read whole: field by field the compiler makes a slower loop of it.)
 fn log_numbers(g: TxLog) -> [u64; 64]
     ensures { result ≡ log_numbers g }
 {
