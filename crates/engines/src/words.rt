@@ -72,7 +72,7 @@ pub fn pick(w: u64, i: usize) -> usize
 
 // One turn of the shuffle: the number at i changes places with one of those from 0 to i. Its bound is the loop's; a
 // test in its stead would need an answer for what never comes. (Not by `swap`, which branches on how i and j lie:
-// that of a pick nobody foresees, and a round in a mesh of 64 took 1.3 times as long.)
+// that of a pick nobody foresees, and a round in a mesh of 64 took 1.4 times as long.)
 #[tactic(auto, using(crate::proofs::Drawing::pick_le), unfolding(crate::specs::Words::swap_step))]
 fn swap_step(words: &[u64], ids: &mut [usize; 64], i: usize, d: Draw) -> Draw
     requires { i < 64 }
