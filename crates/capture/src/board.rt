@@ -350,6 +350,7 @@ struct Packing<'a> {
 impl Change for Packing<'_> {
     ghost changed = { λ p i v. node_by p.states p.goal_reached p.table.now i v };
 
+    // No position has such a number, and the law leaves open what is made of it (engines src/node.rt).
     fn change(&self, i: usize, v: Node) -> Node {
         if i >= 64 {
             return v;

@@ -19,7 +19,7 @@ number_of word = digits_value 10 (without_leading_plus word)
 
 -- those of all the words between the blanks of a line
 abbrev pub numbers_of : List ℕ → List ℕ
-numbers_of line = map number_of (slice_split (λ b. b == 32) line)
+numbers_of line = map number_of (words_of line)
 
 -- ---- any line
 

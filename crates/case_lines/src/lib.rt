@@ -2,8 +2,8 @@
 // one number for many. Any bytes ask: nothing of a line is refused.
 #![tactic(auto)]
 
-ghost use Rattle.std.specs.Prelude.{◌≡◌, ◌+◌, ◌*◌, ◌<◌, ◌%◌, ◌^◌, List, [], ◌∷◌, ℕ, length, map, take, slice_index, IfOk, OnOk, MatchOption};
-ghost use Rattle.std.specs.List.{All, fold, range_with_len, FoldsTo};
+ghost use Rattle.std.specs.Prelude.{◌≡◌, ◌+◌, ◌*◌, ◌<◌, ◌%◌, ◌^◌, List, [], ◌∷◌, ℕ, length, take, slice_index, IfOk, OnOk, MatchOption};
+ghost use Rattle.std.specs.List.{All, fold, FoldsTo};
 ghost use Rattle.case_lines.specs.Lines.{words_of, numbers_of, IsNumber, with_byte, number_read, numbers_read, lines_of, mix_of};
 
 use std::alloc::{AllocError, Global};
@@ -27,7 +27,8 @@ fn with_byte(n: u64, byte: u8) -> u64
     }
 }
 
-fn number(word: &[u8]) -> u64
+// The number that a word of any bytes is read as; an empty one is 0.
+pub fn number(word: &[u8]) -> u64
     ensures { result ≡ number_read word.now }
 {
     word.iter().fold(0, |n, &byte| with_byte(n, byte))

@@ -24,6 +24,7 @@
 
 ghost use Rattle.std.specs.Prelude.{◌≤◌};
 
+use case_lines::number;
 use packets_c::{console, desk};
 use std::alloc::{AllocError, Global};
 use std::io;
@@ -91,24 +92,6 @@ fn words_of(line: &[u8]) -> Words<'_> {
         *place = word;
     }
     words
-}
-
-// The number so far, with one byte more.
-fn with_byte(n: u64, byte: u8) -> u64 {
-    match byte {
-        b'0'..=b'9' => {
-            let digit = u64::from(byte - b'0');
-            match n.checked_mul(10) {
-                Some(tens) => tens.checked_add(digit).unwrap_or(n),
-                None => n,
-            }
-        }
-        _ => n,
-    }
-}
-
-fn number(word: &[u8]) -> u64 {
-    word.iter().fold(0, |n, &byte| with_byte(n, byte))
 }
 
 fn digit_of(byte: u8) -> u8

@@ -225,6 +225,7 @@ struct Progressing<'a> {
 impl Change for Progressing<'_> {
     ghost changed = { λ p i v. progressed p.done (nat_le p.num_txs (get_or p.states.now i no_state).log.len) v };
 
+    // No position has such a number, and the law leaves open what is made of it (engines src/node.rt).
     fn change(&self, i: usize, v: Node) -> Node {
         if i >= 64 {
             return v;

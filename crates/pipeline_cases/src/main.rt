@@ -7,8 +7,8 @@
 // all, nacks, piggybacks, frames tried and received, covered, one number that depends on all positions, logs, pending
 // votes, records and rows, and, for up to 4 positions, each log: how many entries, and each. An entry is its
 // transaction, and 256 more if it was committed. A topology that is refused is answered by the refusal alone.
-// A line may have any bytes: how numbers are read of it case_lines says, and those that are missing are 0. Where it asks
-// for more words or a larger row buffer than there are, the room is opened, and no round is played.
+// A line may have any bytes: how numbers are read of it case_lines says, and those that are missing are 0. Where it
+// asks for more words or a larger row buffer than there are, the room is opened, and no round is played.
 #![tactic(auto)]
 
 use case_lines::Answers;
