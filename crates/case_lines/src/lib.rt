@@ -129,6 +129,7 @@ pub fn answer_lines<A: Answers>(rt: &(impl Input + AllocGlobal), desk: &mut A) -
         let asked = numbers(rt.alloc(), line?.as_str())?;
         desk.answer(&asked)?;
     }
+    // By its path, so that the text of an edit that must fail stands once in this file.
     Result::Ok(())
 }
 
