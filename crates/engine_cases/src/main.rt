@@ -75,7 +75,7 @@ impl Room {
         ] = question;
         let n = n as usize;
         let mut words = vec![in alloc; 0; count.min(MOST_WORDS) as usize]?;
-        case_lines::words_from(first, step, &mut words);
+        case_lines::fill_words(first, step, &mut words);
         Ok(Room {
             n,
             timeout,
@@ -185,5 +185,5 @@ impl Answers for Desk<'_> {
 
 fn main(rt: HostRuntime) -> io::Result<()> {
     let room = Room::open(rt.alloc(), [0; NUMBERS])?;
-    case_lines::answer_lines(&rt, NUMBERS, &mut Desk { rt: &rt, room })
+    case_lines::answer_input(&rt, NUMBERS, &mut Desk { rt: &rt, room })
 }

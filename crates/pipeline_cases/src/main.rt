@@ -330,5 +330,5 @@ impl Answers for Desk<'_> {
 }
 
 fn main(rt: HostRuntime) -> io::Result<()> {
-    case_lines::answer_lines(&rt, NUMBERS, &mut Desk(&rt))
+    case_lines::answer_input(&rt, NUMBERS, &mut Desk(&rt))
 }

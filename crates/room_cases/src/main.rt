@@ -181,7 +181,7 @@ fn answer(rt: &(impl Print + AllocGlobal), question: &[u64]) -> io::Result<()> {
         return Ok(());
     };
     let mut words = vec![in alloc; 0; MOST_WORDS.min(*count) as usize]?;
-    case_lines::words_from(*first, *step, &mut words);
+    case_lines::fill_words(*first, *step, &mut words);
     let lent = Lent {
         loss: LOSSES[(*loss as usize).min(LOSSES.len() - 1)],
         abort: ABORTS[(*abort as usize).min(ABORTS.len() - 1)],
@@ -204,5 +204,5 @@ impl Answers for Desk<'_> {
 }
 
 fn main(rt: HostRuntime) -> io::Result<()> {
-    case_lines::answer_lines(&rt, NUMBERS, &mut Desk(&rt))
+    case_lines::answer_input(&rt, NUMBERS, &mut Desk(&rt))
 }

@@ -1,5 +1,5 @@
 use Rattle.std.proofs.Common.{◌≡◌, ◌+◌, ◌*◌, ◌<◌, ◌%◌, ◌^◌, ℕ, length, slice_index}
-use Rattle.case_lines.proofs.words_from.Given as goal
+use Rattle.case_lines.proofs.fill_words.Given as goal
 
 abbrev pub invariant-loop-i : goal.invariant-loop-i
 invariant-loop-i l =
