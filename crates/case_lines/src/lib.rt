@@ -38,8 +38,8 @@ pub fn number(word: &[u8]) -> u64
     word.iter().fold(0, |n, &byte| with_byte(n, byte))
 }
 
-// The numbers of a line, at most so many: decimal, with single blanks between them. Each word is a number, an empty one
-// is 0.
+// The numbers of any line, at most so many: decimal, with single blanks between them. Each word is a number, an empty
+// one is 0.
 pub fn numbers_read(alloc: Global, line: &[u8], most: usize) -> Result<Vec<u64>, AllocError>
     ensures read { IfOk result (λ v. v.items ≡ numbers_read most line.now) }
     ensures plain { IfOk result (λ v. All IsNumber (words_of line.now) → v.items ≡ take most (numbers_of line.now)) }
@@ -107,8 +107,8 @@ pub fn answer_input<A: Answers>(
     answer_text(rt.alloc(), &text, most, desk)
 }
 
-// The numbers of a plain line: decimal, with single blanks between them. A word that is no number, or whose number does
-// not fit, is an error.
+// The numbers of a plain line: decimal, each maybe behind a plus, with single blanks between them. A word that is no
+// number, or whose number does not fit, is an error.
 pub fn numbers(alloc: Global, line: &str) -> anyhow::Result<Vec<u64>>
     ensures read { IfOk result (λ v. v.items ≡ numbers_of line.now) }
     ensures plain { IfOk result (λ v. All IsNumber (words_of line.now)) }

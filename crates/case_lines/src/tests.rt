@@ -1,3 +1,4 @@
+// RULES none. Calls of what no program calls: `numbers`, `answer_lines` and `words_from`.
 use super::*;
 use std::alloc::Allocator;
 use std::io::{BufRead, Lines};
